@@ -3,6 +3,7 @@ ghost use mathlib.Core.Path.{_≡_};
 ghost use Rattle.refusal.specs.Numbers.{number};
 ghost use Rattle.refusal.specs.Parties.{party, partyNumber};
 ghost use Rattle.refusal.specs.Spots.{spot};
+ghost use Rattle.refusal.specs.Chains.{Smallest-first};
 
 /// What a refusal points at.
 #[derive(Clone, Copy, PartialEq, Eq, Debug)]
@@ -129,4 +130,11 @@ impl Refusal {
             _ => Spot::Call,
         }
     }
+}
+
+/// Of a chain of rules whose numbers rise, the smallest refusal whose condition holds comes.
+pub fn smallest_first() -> u8
+    ensures { λ _. ⌜ Smallest-first ⌝ }
+{
+    0
 }

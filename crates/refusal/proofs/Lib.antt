@@ -1,0 +1,2 @@
+-- The root of the refusals' lemmas.
+pub mod Judging

@@ -1,0 +1,2 @@
+-- The root of the ring's definitions.
+pub mod Rings
