@@ -1,6 +1,6 @@
 -- Over any list of acts a ring's places go out in turn and come back in order.
 use Prim.Native.Nat.{ℕ, zero, suc, _+_, _-_, _%_, _<_, _≤_, min}
-use native.Mathlib.Nat.{mod-mod, min-eq-left}
+use native.Mathlib.Nat.{mod-mod, min-eq-left, min-le-right}
 use native.Mathlib.Numerals.{add-one}
 use native.Mathlib.Omega.{arith}
 use mathlib.Core.List.{List, [], _∷_, _++_, append-assoc, append-nil}
@@ -15,6 +15,7 @@ use Rattle.std.specs.declared.option.Option.{Option}
 use Rattle.std.specs.declared.option.Option.the-variants.{Some, None}
 use Rattle.ring.specs.declared.Ring.{Ring}
 use Rattle.ring.specs.Rings.{places, count, order, fresh, oldest, following, taken, freed, Act, taking, freeing, acted, ended, gained, lost, allTaken, allFreed, In-turn}
+use Rattle.ring.proofs.Apart.{places-apart}
 use Rattle.ring.proofs.Places.{places-length, places-same, took, let-go}
 
 -- one act takes its place at the end and frees at the front
@@ -130,4 +131,5 @@ in-turn n =
     record {
       round = λ acts. let P : List ℕ → Type 0 = λ xs. Turn n 0 (xs ++ allTaken n (fresh n) acts) in subst P (fresh-none n) (round-from n (fresh n) acts);
       each = λ acts. ap (λ xs. xs ++ allTaken n (fresh n) acts) (sym (fresh-none n)) ∙ each-from n (fresh n) acts;
+      apart = λ r. places-apart n (r .first) (count n r) (min-le-right (r .used) n);
     }

@@ -76,8 +76,19 @@ abbrev pub allFreed : (n : ℕ) → Ring n → List Act → List ℕ
 allFreed n r [] = []
 allFreed n r (a ∷ acts) = lost n r a ++ allFreed n (acted n r a) acts
 
+-- p does not stand in the list
+abbrev pub Avoids : ℕ → List ℕ → Type 0
+Avoids p [] = Unit {0}
+Avoids p (x ∷ xs) = (x ≡ p → ⊥) × Avoids p xs
+
+-- no place stands in the list twice
+abbrev pub Apart : List ℕ → Type 0
+Apart [] = Unit {0}
+Apart (x ∷ xs) = Avoids x xs × Apart xs
+
 -- From a new ring on, whatever is done: the places taken are 0, 1, 2 and so on, 0 again after n - 1; they are those freed, in the
--- same order, followed by those in use.
+-- same order, followed by those in use. No place is in use twice.
 pub record In-turn (n : ℕ) : Type 0 where
   pub round : (acts : List Act) → allTaken n (fresh n) acts ≡ places n 0 (length (allTaken n (fresh n) acts))
   pub each : (acts : List Act) → allTaken n (fresh n) acts ≡ allFreed n (fresh n) acts ++ order n (ended n (fresh n) acts)
+  pub apart : (r : Ring n) → Apart (order n r)

@@ -1,7 +1,8 @@
 //! A ring of N places used in turn: which places are in use, from the oldest on. Slots and notices keep their order by it.
 ghost use mathlib.Core.Path.{_≡_};
 ghost use mathlib.Core.List.{[], _++_};
-ghost use Prim.Native.Nat.{_+_, _-_};
+ghost use Prim.Native.Nat.{_+_, _-_, _<_};
+ghost use Rattle.std.specs.Options.{Cases};
 ghost use lib.ListN.{length};
 ghost use Rattle.std.specs.Vec.{listOf};
 ghost use Rattle.ring.specs.Rings.{order, count, fresh, oldest, following, taken, freed, In-turn};
@@ -54,6 +55,7 @@ impl<const N: usize> Ring<N> {
         ensures answer { λ r. ⌜ r ≡ following N (now (self .entry)) ⌝ }
         ensures after { λ _. ⌜ now (self .exit) ≡ taken N (now (self .entry)) ⌝ }
         ensures order { λ r. ⌜ order N (now (self .exit)) ≡ order N (now (self .entry)) ++ listOf r ⌝ }
+        ensures some { λ r. ⌜ Cases r (now (self .exit) ≡ now (self .entry)) (λ p. p < N) ⌝ }
     {
         let used = self.used;
         if used >= N {
@@ -74,6 +76,7 @@ impl<const N: usize> Ring<N> {
         ensures answer { λ r. ⌜ r ≡ oldest (order N (now (self .entry))) ⌝ }
         ensures after { λ _. ⌜ now (self .exit) ≡ freed N (now (self .entry)) ⌝ }
         ensures order { λ r. ⌜ order N (now (self .entry)) ≡ listOf r ++ order N (now (self .exit)) ⌝ }
+        ensures some { λ r. ⌜ Cases r (now (self .exit) ≡ now (self .entry)) (λ p. p < N) ⌝ }
     {
         let used = self.used();
         if used == 0 {

@@ -1,6 +1,6 @@
 -- The oldest place goes, and the one after it is the oldest.
 use Prim.Native.Nat.{_+_, _-_, _%_, _<_, _≤_}
-use native.Mathlib.Nat.{min-le-right}
+use native.Mathlib.Nat.{min-le-right, mod-lt}
 use native.Mathlib.Omega.{arith}
 use mathlib.Core.Path.{_≡_, refl, ap, _∙_}
 use Rattle.ring.specs.Rings.{count}
@@ -17,4 +17,4 @@ returns g c =
     let next : c .if-first .self ≡ (r .first + 1) % g .N =
         elim (c .if-first .came) [ then-first w ↦ w .self-is ∙ next-first (g .N) (r .first) (w .if-first .taken) | else-first w ↦ w .self-is ∙ next-place (g .N) (r .first) pos (w .if-first .left) ] in
     let t = let-go (g .N) r _ _ _ some refl next (ap (λ u. u - 1) (c .used-used .ensures .value)) in
-    record { answer = t .answer; after = t .after; order = t .order }
+    record { answer = t .answer; after = t .after; order = t .order; some = mod-lt (r .first) pos }

@@ -1,0 +1,4 @@
+-- The root of the notices' lemmas.
+pub mod Made
+pub mod Shown
+pub mod Orders

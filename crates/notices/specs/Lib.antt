@@ -1,0 +1,4 @@
+-- The root of the notices' definitions.
+pub mod Blocks
+pub mod Boards
+pub mod Law

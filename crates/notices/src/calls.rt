@@ -1,0 +1,100 @@
+//! The calls on a notice buffer: making one, switching on, an arriving notice, taking the oldest, and looks.
+ghost use mathlib.Core.Path.{_≡_};
+ghost use Rattle.std.specs.Options.{mapped};
+ghost use Rattle.std.specs.Results.{Cases};
+ghost use Rattle.std.specs.declared.result.Result.the-variants.{Ok, Err};
+ghost use Rattle.notices.specs.Boards.{board, made, madeBoard, switched, arriving, arrived, taking, taken, seen};
+
+use crate::block::BLOCK;
+use crate::block::block_of;
+use crate::block::clear_valid;
+use crate::block::fits_block;
+use crate::block::write_block;
+use crate::board::Notices;
+use refusal::Refusal;
+use ring::Ring;
+
+impl<'a> Notices<'a> {
+    /// A notice buffer over 4,096 lent bytes: zeroed, off, from block 0.
+    pub fn new(buffer: &'a mut [u8]) -> Result<Notices<'a>, Refusal>
+        ensures { λ r. ⌜ made (now (buffer .entry)) r ⌝ }
+    {
+        if buffer.len() != 4096 {
+            return Err(Refusal::WrongSize);
+        }
+        buffer.fill(0);
+        Ok(Notices {
+            buffer,
+            ring: Ring::new(),
+            on: false,
+            overflow: false,
+        })
+    }
+
+    /// Switches notices on and clears the overflow mark.
+    pub fn switch_on(&mut self)
+        ensures { λ _. ⌜ board (now (self .exit)) ≡ switched (board (now (self .entry))) ⌝ }
+    {
+        self.on = true;
+        self.overflow = false;
+    }
+}
+
+impl Notices<'_> {
+    /// A notice arrives: the number of its block, or why it is refused.
+    pub fn arrive(&mut self, source: u8, key: Option<u32>, bytes: &[u8]) -> Result<usize, Refusal>
+        ensures answer { λ r. ⌜ r ≡ arriving (board (now (self .entry))) (record { source = source; key = key; bytes = now (bytes .entry) }) ⌝ }
+        ensures after { λ _. ⌜ board (now (self .exit)) ≡ arrived (board (now (self .entry))) (record { source = source; key = key; bytes = now (bytes .entry) }) ⌝ }
+    {
+        if !fits_block(key, bytes) {
+            return Err(Refusal::BadNotice);
+        }
+        if !self.on {
+            return Err(Refusal::NoticesOff);
+        }
+        let Some(block) = self.ring.take() else {
+            self.on = false;
+            self.overflow = true;
+            return Err(Refusal::NoticesFull);
+        };
+        write_block(self.buffer, block, &block_of(source, key, bytes));
+        Ok(block)
+    }
+
+    /// Takes the oldest notice: the number of its block.
+    pub fn take(&mut self) -> Result<usize, Refusal>
+        ensures answer { λ r. ⌜ r ≡ taking (board (now (self .entry))) ⌝ }
+        ensures after { λ _. ⌜ board (now (self .exit)) ≡ taken (board (now (self .entry))) ⌝ }
+    {
+        let Some(block) = self.ring.release() else {
+            return Err(Refusal::NothingThere);
+        };
+        clear_valid(self.buffer, block);
+        Ok(block)
+    }
+
+    /// Whether notices are on.
+    pub fn is_on(&self) -> bool
+        ensures { λ r. ⌜ r ≡ board (now (self .entry)) .on ⌝ }
+    {
+        self.on
+    }
+
+    /// Whether a notice was discarded since notices were last switched on.
+    pub fn overflowed(&self) -> bool
+        ensures { λ r. ⌜ r ≡ board (now (self .entry)) .overflow ⌝ }
+    {
+        self.overflow
+    }
+
+    /// A block's bytes, if there is such a block.
+    pub fn block(&self, number: u8) -> Option<&[u8]>
+        ensures { λ r. ⌜ mapped (λ s. now s) r ≡ seen (board (now (self .entry))) number ⌝ }
+    {
+        let at = number as usize * BLOCK;
+        if at + BLOCK > self.buffer.len() {
+            return None;
+        }
+        Some(&self.buffer[at..at + BLOCK])
+    }
+}
