@@ -3,7 +3,8 @@ use Prim.Native.Nat.{ℕ, _+_, _-_, _*_, _/_, _%_, _^_, _<_, _≤_}
 use mathlib.Core.Bool.{Bool, true, false, cond, not}
 use mathlib.Core.List.{List, [], _∷_, _++_}
 use mathlib.Core.Path.{_≡_}
-use denote.Ref.{now}
+use denote.Ref.{now, name}
+use base.Fml.{GName}
 use lib.Dec.{leb, ltb, eqb}
 use lib.ListN.{length, replicate}
 use Rattle.std.specs.Options.{valueOr}
@@ -29,14 +30,22 @@ pub record Board : Type 0 where
 abbrev pub board : Notices → Board
 board n = record { bytes = now (n .buffer); ring = n .ring; on = n .on; overflow = n .overflow }
 
--- a new one: zeroed, off, from block 0
-abbrev pub madeBoard : Board
-madeBoard = record { bytes = replicate 4096 0; ring = rings.fresh 64; on = false; overflow = false }
+-- a new one over so many bytes: zeroed, off, from block 0
+abbrev pub zeroed : ℕ → Board
+zeroed n = record { bytes = replicate n 0; ring = rings.fresh 64; on = false; overflow = false }
 
--- making one over a lent buffer
+abbrev pub madeBoard : Board
+madeBoard = zeroed 4096
+
+-- making one over a lent buffer, which has 4,096 bytes or is refused
 abbrev pub made : List ℕ → Result Notices Refusal → Type 0
-made lent (Ok n) = (length lent ≡ 4096) × (board n ≡ madeBoard)
+made lent (Ok n) = (length lent ≡ 4096) × (board n ≡ zeroed (length lent))
 made lent (Err f) = (length lent ≡ 4096 → ⊥) × (f ≡ WrongSize)
+
+-- the buffer that is written is the one that was lent
+abbrev pub lentTo : GName → Result Notices Refusal → Type 0
+lentTo lender (Ok n) = name (n .buffer) ≡ lender
+lentTo lender (Err f) = Unit {0}
 
 -- switching on clears the overflow mark and changes nothing else
 abbrev pub switched : Board → Board

@@ -1,7 +1,7 @@
 //! One block of the notice buffer: what a notice looks like in its 64 bytes.
 ghost use mathlib.Core.Path.{_≡_};
 ghost use Prim.Native.Nat.{_<_, _≤_};
-ghost use lib.ListN.{length};
+ghost use lib.ListN.{length, replicate};
 ghost use Rattle.notices.specs.Blocks.{blockOf, fits, keyNumber, keyByte, flags, withBlock, cleared};
 
 /// Bytes of a block.
@@ -13,6 +13,13 @@ pub fn fits_block(key: Option<u32>, bytes: &[u8]) -> bool
 {
     let n = bytes.len();
     n >= 1 && n <= 56 && key.unwrap_or(0) < 16_777_216
+}
+
+// Zeroes the buffer.
+pub(crate) fn wipe(buffer: &mut [u8])
+    ensures { λ _. ⌜ now (buffer .exit) ≡ replicate (length (now (buffer .entry))) 0 ⌝ }
+{
+    buffer.fill(0);
 }
 
 // Byte 3 of a notice's block.

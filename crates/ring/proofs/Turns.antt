@@ -132,4 +132,5 @@ in-turn n =
       round = λ acts. let P : List ℕ → Type 0 = λ xs. Turn n 0 (xs ++ allTaken n (fresh n) acts) in subst P (fresh-none n) (round-from n (fresh n) acts);
       each = λ acts. ap (λ xs. xs ++ allTaken n (fresh n) acts) (sym (fresh-none n)) ∙ each-from n (fresh n) acts;
       apart = λ r. places-apart n (r .first) (count n r) (min-le-right (r .used) n);
+      counted = λ r. places-length n (r .first) (count n r);
     }

@@ -87,8 +87,9 @@ Apart [] = Unit {0}
 Apart (x ∷ xs) = Avoids x xs × Apart xs
 
 -- From a new ring on, whatever is done: the places taken are 0, 1, 2 and so on, 0 again after n - 1; they are those freed, in the
--- same order, followed by those in use. No place is in use twice.
+-- same order, followed by those in use. The count is that of the places in use, and no place is in use twice.
 pub record In-turn (n : ℕ) : Type 0 where
   pub round : (acts : List Act) → allTaken n (fresh n) acts ≡ places n 0 (length (allTaken n (fresh n) acts))
   pub each : (acts : List Act) → allTaken n (fresh n) acts ≡ allFreed n (fresh n) acts ++ order n (ended n (fresh n) acts)
   pub apart : (r : Ring n) → Apart (order n r)
+  pub counted : (r : Ring n) → length (order n r) ≡ count n r

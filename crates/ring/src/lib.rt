@@ -1,10 +1,10 @@
 //! A ring of N places used in turn: which places are in use, from the oldest on. Slots and notices keep their order by it.
 ghost use mathlib.Core.Path.{_≡_};
-ghost use mathlib.Core.List.{[], _++_};
-ghost use Prim.Native.Nat.{_+_, _-_, _<_};
+ghost use mathlib.Core.List.{[], _∷_, _++_};
+ghost use Prim.Native.Nat.{_+_, _-_, _%_, _<_};
 ghost use Rattle.std.specs.Options.{Cases};
-ghost use lib.ListN.{length};
 ghost use Rattle.std.specs.Vec.{listOf};
+ghost use Rattle.std.specs.declared.option.Option.the-variants.{Some};
 ghost use Rattle.ring.specs.Rings.{order, count, fresh, oldest, following, taken, freed, In-turn};
 
 /// Which of N places are in use: the oldest, and how many from there on. Every pair of numbers means something: counts
@@ -26,16 +26,14 @@ impl<const N: usize> Ring<N> {
 
     /// How many places are in use.
     pub fn used(&self) -> usize
-        ensures value { λ r. ⌜ r ≡ count N (now (self .entry)) ⌝ }
-        ensures len { λ r. ⌜ length (order N (now (self .entry))) ≡ r ⌝ }
+        ensures { λ r. ⌜ r ≡ count N (now (self .entry)) ⌝ }
     {
         self.used.min(N)
     }
 
     /// How many places are free.
     pub fn free(&self) -> usize
-        ensures value { λ r. ⌜ r ≡ N - count N (now (self .entry)) ⌝ }
-        ensures len { λ r. ⌜ r + length (order N (now (self .entry))) ≡ N ⌝ }
+        ensures { λ r. ⌜ r ≡ N - count N (now (self .entry)) ⌝ }
     {
         N - self.used()
     }
@@ -47,7 +45,7 @@ impl<const N: usize> Ring<N> {
         if self.used() == 0 {
             return None;
         }
-        Some(self.first % N)
+        Some(self.front())
     }
 
     /// Takes the place after the last; none if all are in use.
@@ -57,18 +55,10 @@ impl<const N: usize> Ring<N> {
         ensures order { λ r. ⌜ order N (now (self .exit)) ≡ order N (now (self .entry)) ++ listOf r ⌝ }
         ensures some { λ r. ⌜ Cases r (now (self .exit) ≡ now (self .entry)) (λ p. p < N) ⌝ }
     {
-        let used = self.used;
-        if used >= N {
+        if self.used >= N {
             return None;
         }
-        let first = self.first % N;
-        let ahead = N - first;
-        self.used = used + 1;
-        if used < ahead {
-            Some(first + used)
-        } else {
-            Some(used - ahead)
-        }
+        Some(self.grow())
     }
 
     /// Frees the oldest place; none if no place is in use.
@@ -78,14 +68,50 @@ impl<const N: usize> Ring<N> {
         ensures order { λ r. ⌜ order N (now (self .entry)) ≡ listOf r ++ order N (now (self .exit)) ⌝ }
         ensures some { λ r. ⌜ Cases r (now (self .exit) ≡ now (self .entry)) (λ p. p < N) ⌝ }
     {
-        let used = self.used();
-        if used == 0 {
+        if self.used() == 0 {
             return None;
         }
+        Some(self.shrink())
+    }
+
+    // The oldest place of a ring that is not empty.
+    fn front(&self) -> usize
+        requires { ⌜ 0 < count N (now self) ⌝ }
+        ensures { λ r. ⌜ oldest (order N (now (self .entry))) ≡ Some r ⌝ }
+    {
+        self.first % N
+    }
+
+    // Takes a place of a ring that is not full.
+    fn grow(&mut self) -> usize
+        requires { ⌜ now self .used < N ⌝ }
+        ensures answer { λ r. ⌜ r ≡ (now (self .entry) .first + now (self .entry) .used) % N ⌝ }
+        ensures after { λ _. ⌜ now (self .exit) ≡ record { first = now (self .entry) .first; used = now (self .entry) .used + 1 } ⌝ }
+        ensures order { λ r. ⌜ order N (now (self .exit)) ≡ order N (now (self .entry)) ++ (r ∷ []) ⌝ }
+    {
+        let used = self.used;
+        let first = self.first % N;
+        let ahead = N - first;
+        self.used = used + 1;
+        if used < ahead {
+            first + used
+        } else {
+            used - ahead
+        }
+    }
+
+    // Frees the oldest place of a ring that is not empty.
+    fn shrink(&mut self) -> usize
+        requires { ⌜ 0 < count N (now self) ⌝ }
+        ensures answer { λ r. ⌜ r ≡ now (self .entry) .first % N ⌝ }
+        ensures after { λ _. ⌜ now (self .exit) ≡ record { first = (now (self .entry) .first + 1) % N; used = count N (now (self .entry)) - 1 } ⌝ }
+        ensures order { λ r. ⌜ order N (now (self .entry)) ≡ r ∷ order N (now (self .exit)) ⌝ }
+    {
+        let used = self.used();
         let first = self.first % N;
         self.first = if first + 1 == N { 0 } else { first + 1 };
         self.used = used - 1;
-        Some(first)
+        first
     }
 }
 
