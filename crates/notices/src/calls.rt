@@ -1,12 +1,8 @@
-//! The calls on a notice buffer: making one, switching on, an arriving notice, taking the oldest, and looks.
+//! The calls on a notice buffer: making one, switching on, an arriving notice, taking the oldest.
 ghost use denote.Ref.{name};
 ghost use mathlib.Core.Path.{_≡_};
-ghost use Rattle.std.specs.Options.{mapped};
-ghost use Rattle.std.specs.Results.{Cases};
-ghost use Rattle.std.specs.declared.result.Result.the-variants.{Ok, Err};
-ghost use Rattle.notices.specs.Boards.{board, made, lentTo, switched, arriving, arrived, taking, taken, seen};
+ghost use Rattle.notices.specs.Boards.{board, made, lentTo, switched, arriving, arrived, taking, taken};
 
-use crate::block::BLOCK;
 use crate::block::block_of;
 use crate::block::clear_valid;
 use crate::block::fits_block;
@@ -77,30 +73,5 @@ impl Notices<'_> {
         };
         clear_valid(self.buffer, oldest);
         Ok(oldest)
-    }
-
-    /// Whether notices are on.
-    pub fn is_on(&self) -> bool
-        ensures { λ r. ⌜ r ≡ board (now (self .entry)) .on ⌝ }
-    {
-        self.on
-    }
-
-    /// Whether a notice was discarded since notices were last switched on.
-    pub fn overflowed(&self) -> bool
-        ensures { λ r. ⌜ r ≡ board (now (self .entry)) .overflow ⌝ }
-    {
-        self.overflow
-    }
-
-    /// A block's bytes, if there is such a block.
-    pub fn block(&self, number: u8) -> Option<&[u8]>
-        ensures { λ r. ⌜ mapped (λ s. now s) r ≡ seen (board (now (self .entry))) number ⌝ }
-    {
-        let at = number as usize * BLOCK;
-        if at + BLOCK > self.buffer.len() {
-            return None;
-        }
-        Some(&self.buffer[at..at + BLOCK])
     }
 }

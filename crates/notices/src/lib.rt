@@ -3,6 +3,7 @@ pub mod block;
 pub mod board;
 pub mod calls;
 pub mod law;
+pub mod looks;
 
 pub use block::fits_block;
 pub use board::Notices;

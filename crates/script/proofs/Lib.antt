@@ -1,0 +1,2 @@
+-- The root of the language's lemmas.
+pub mod Values

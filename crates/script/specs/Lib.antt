@@ -1,0 +1,3 @@
+-- The root of the language's definitions.
+pub mod Bytes
+pub mod Numbers
