@@ -1,5 +1,5 @@
 //! Bytes as a scenario writes them: hexadecimal digits, or a rule that makes them.
-ghost use Prim.Native.Nat.{_+_, _*_, _/_, _<_};
+ghost use Prim.Native.Nat.{_+_, _*_, _/_, _<_, _≤_};
 ghost use lib.ListN.{length};
 ghost use mathlib.Core.Bool.{true};
 ghost use Rattle.std.specs.Options.{mapped};
@@ -9,9 +9,10 @@ ghost use mathlib.Core.Path.{_≡_};
 ghost use Rattle.std.specs.Iters.{counting};
 ghost use Rattle.std.specs.Of.Vec.{vec-items};
 ghost use Rattle.std.specs.Vec.{made};
-ghost use Rattle.script.specs.Bytes.{generated, hexed, pairAt};
+ghost use Rattle.script.specs.Bytes.{generated, hexed, pairAt, bytesOf, afterMark, colonAt, parted, ruledBy, ruled, handed};
 
 use crate::number::digit_of;
+use crate::number::read_u64;
 use std::alloc::AllocError;
 use std::alloc::Global;
 
@@ -75,4 +76,94 @@ pub fn read_hex(heap: Global, digits: &[u8]) -> Result<Option<Vec<u8>>, AllocErr
         return Ok(None);
     }
     Ok(Some(pairs(heap, digits)?))
+}
+
+/// Bytes that a scenario hands over: written out, or made by the rule of a generated text.
+#[derive(Drop)]
+pub enum Data {
+    Written(Vec<u8>),
+    Generated(usize, u64),
+}
+
+impl Data {
+    /// The bytes.
+    pub fn into_bytes(self, heap: Global) -> Result<Vec<u8>, AllocError>
+        ensures { λ r. ⌜ made r (λ v. vec-items v ≡ bytesOf self) ⌝ }
+    {
+        match self {
+            Data::Written(bytes) => Ok(bytes),
+            Data::Generated(count, start) => generate(heap, count, start),
+        }
+    }
+}
+
+// What follows four given bytes, if the word begins with them.
+fn after_mark<'a>(word: &'a [u8], mark: &[u8; 4]) -> Option<&'a [u8]>
+    ensures { λ r. ⌜ mapped (λ s. now s) r ≡ afterMark (now (mark .entry)) (now (word .entry)) ⌝ }
+{
+    if word.len() >= 4 && word[0] == mark[0] && word[1] == mark[1] && word[2] == mark[2] && word[3] == mark[3] {
+        Some(&word[4..])
+    } else {
+        None
+    }
+}
+
+// Where the first colon stands, or the length where there is none.
+fn colon(word: &[u8]) -> usize
+    ensures value { λ r. ⌜ r ≡ colonAt (now (word .entry)) ⌝ }
+    ensures bound { λ r. ⌜ r ≤ length (now (word .entry)) ⌝ }
+{
+    for (i, byte) in word.iter().enumerate() {
+        if *byte == b':' {
+            return i;
+        }
+    }
+    word.len()
+}
+
+// What stands before the first colon, and what after it.
+pub(crate) fn part_at_colon(word: &[u8]) -> Option<(&[u8], &[u8])>
+    ensures { λ r. ⌜ mapped (λ p. (now (p .0), now (p .1))) r ≡ parted (now (word .entry)) ⌝ }
+{
+    let at = colon(word);
+    if at >= word.len() {
+        return None;
+    }
+    Some((&word[0..at], &word[at + 1..]))
+}
+
+// A generated text of at most 16,777,216 bytes.
+fn rule_of(count: Option<u64>, start: Option<u64>) -> Option<Data>
+    ensures { λ r. ⌜ mapped bytesOf r ≡ ruledBy count start ⌝ }
+{
+    match (count, start) {
+        (Some(count), Some(start)) if count <= 16_777_216 => Some(Data::Generated(count as usize, start)),
+        _ => None,
+    }
+}
+
+// The count and the start of a generated text.
+fn read_rule(rule: &[u8]) -> Option<Data>
+    ensures { λ r. ⌜ mapped bytesOf r ≡ ruled (parted (now (rule .entry))) ⌝ }
+{
+    match part_at_colon(rule) {
+        Some((count, start)) => rule_of(read_u64(count), read_u64(start)),
+        None => None,
+    }
+}
+
+/// Bytes as a word writes them: hex: and digits, or gen:N:S.
+pub fn read_data(heap: Global, word: &[u8]) -> Result<Option<Data>, AllocError>
+    ensures { λ r. ⌜ made r (λ o. mapped bytesOf o ≡ handed (now (word .entry))) ⌝ }
+{
+    if let Some(digits) = after_mark(word, b"hex:") {
+        return match read_hex(heap, digits)? {
+            Some(bytes) => Ok(Some(Data::Written(bytes))),
+            None => Ok(None),
+        };
+    }
+    match after_mark(word, b"gen:") {
+        Some(rule) => Ok(read_rule(rule)),
+        None => Ok(None),
+    }
 }
