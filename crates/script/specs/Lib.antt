@@ -1,3 +1,2 @@
--- The root of the language's definitions.
-pub mod Bytes
-pub mod Numbers
+-- The root of the scenario language's definitions.
+pub mod Faults

@@ -1,0 +1,4 @@
+-- The root of the language's definitions.
+pub mod Bytes
+pub mod Numbers
+pub mod Parts

@@ -1,0 +1,17 @@
+//! What the words of a scenario say: lines and words cut from a text, numbers, and bytes.
+pub mod data;
+pub mod number;
+pub mod parts;
+pub mod words;
+
+pub use data::Data;
+pub use data::generate;
+pub use data::read_data;
+pub use data::read_hex;
+pub use number::read_u16;
+pub use number::read_u32;
+pub use number::read_u64;
+pub use number::read_u8;
+pub use parts::Stop;
+pub use parts::part_at;
+pub use words::Words;

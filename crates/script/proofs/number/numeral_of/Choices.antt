@@ -1,6 +1,0 @@
--- What the digits read so far leave to be read.
-use Rattle.script.proofs.Values.{Reading}
-use Rattle.script.proofs.number.numeral_of.Given as given
-
-abbrev pub Inv-loop-byte : given.InvT-loop-byte
-Inv-loop-byte l = Reading (l .base) (l .digits) (l .byte-index) (l .value)
