@@ -1,2 +1,3 @@
 -- The root of the scenario language's definitions.
 pub mod Faults
+pub mod Carrying

@@ -1,4 +1,10 @@
 //! Carries out a command and writes its answer as a line of text.
+ghost use denote.Ref.{name};
+ghost use mathlib.Core.Path.{_≡_};
+ghost use Rattle.std.specs.Vec.{made};
+ghost use Rattle.notices.specs.Boards.{board};
+ghost use Rattle.script.specs.Carrying.{carried};
+
 use crate::command::Command;
 use crate::command::Line;
 use notices::Notices;
@@ -39,7 +45,10 @@ fn overflow_answer(heap: Global, label: &str, notices: &Notices) -> Result<Strin
 }
 
 /// Carries out a line's command; what it answers, as a line of text.
-pub fn carry_out(heap: Global, notices: &mut Notices, line: Line) -> Result<String, AllocError> {
+pub fn carry_out(heap: Global, notices: &mut Notices, line: Line) -> Result<String, AllocError>
+    ensures after { λ r. ⌜ made r (λ _. board (now (notices .exit)) ≡ carried (board (now (notices .entry))) (line .command)) ⌝ }
+    ensures lent { λ _. ⌜ name (now (notices .exit) .buffer) ≡ name (now (notices .entry) .buffer) ⌝ }
+{
     let Line { number: _, label, command } = line;
     let label = label.as_str();
     match command {

@@ -1,0 +1,3 @@
+//! Tests of the notice buffer and the ring at their bounds.
+#[cfg(test)]
+mod tests;
