@@ -1,0 +1,2 @@
+-- The root of the choice's lemmas.
+pub mod Cases

@@ -1,0 +1,2 @@
+-- The root of the lamp's definitions.
+pub mod Lamp

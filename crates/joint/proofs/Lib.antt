@@ -1,0 +1,2 @@
+-- The root of the lemmas on two links side by side.
+pub mod Sides

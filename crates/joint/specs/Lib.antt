@@ -1,0 +1,2 @@
+-- The root of the definitions on two links side by side.
+pub mod Sides

@@ -1,0 +1,2 @@
+-- The root of the layers' definitions.
+pub mod Patterns

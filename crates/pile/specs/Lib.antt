@@ -1,0 +1,2 @@
+-- The root of the pile's definitions.
+pub mod Piles

@@ -1,0 +1,4 @@
+-- The lemmas of this crate.
+pub mod Fixing
+pub mod Pipes
+pub mod Walks
