@@ -13,7 +13,7 @@ use Rattle.std.specs.declared.option.Option.{Option}
 use Rattle.std.specs.declared.option.Option.the-variants.{Some, None}
 use Rattle.lexer.specs.Parts.{parted}
 use Rattle.lexer.specs.declared.parts.Stop.the-variants.{Colon}
-use Rattle.lexer.specs.Numbers.{digit, allDigits, number}
+use Rattle.numeral.specs.Numbers.{digit, allDigits, number}
 
 -- byte k of a generated text
 abbrev pub generated : ℕ → ℕ → ℕ

@@ -1,4 +1,3 @@
 -- The root of the language's definitions.
 pub mod Bytes
-pub mod Numbers
 pub mod Parts

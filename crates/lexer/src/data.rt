@@ -3,7 +3,7 @@ ghost use Prim.Native.Nat.{_+_, _*_, _/_, _<_};
 ghost use lib.ListN.{length};
 ghost use mathlib.Core.Bool.{true};
 ghost use Rattle.std.specs.Options.{mapped};
-ghost use Rattle.lexer.specs.Numbers.{digit, allDigits};
+ghost use Rattle.numeral.specs.Numbers.{digit, allDigits};
 ghost use mathlib.Core.List.{map};
 ghost use mathlib.Core.Path.{_≡_};
 ghost use Rattle.std.specs.Iters.{counting};
@@ -12,11 +12,10 @@ ghost use Rattle.std.specs.Vec.{made};
 ghost use Rattle.lexer.specs.Parts.{parted};
 ghost use Rattle.lexer.specs.declared.parts.Stop.the-variants.{Colon};
 ghost use Rattle.lexer.specs.Bytes.{generated, hexed, pairAt, bytesOf, afterMark, ruledBy, ruled, handed};
-
-use crate::number::digit_of;
-use crate::number::read_u64;
 use crate::parts::Stop;
 use crate::parts::part_at;
+use numeral::digit_of;
+use numeral::read_u64;
 use std::alloc::AllocError;
 use std::alloc::Global;
 
@@ -105,7 +104,12 @@ impl Data {
 fn after_mark<'a>(word: &'a [u8], mark: &[u8; 4]) -> Option<&'a [u8]>
     ensures { λ r. ⌜ mapped (λ s. now s) r ≡ afterMark (now (mark .entry)) (now (word .entry)) ⌝ }
 {
-    if word.len() >= 4 && word[0] == mark[0] && word[1] == mark[1] && word[2] == mark[2] && word[3] == mark[3] {
+    if word.len() >= 4
+        && word[0] == mark[0]
+        && word[1] == mark[1]
+        && word[2] == mark[2]
+        && word[3] == mark[3]
+    {
         Some(&word[4..])
     } else {
         None
@@ -117,7 +121,10 @@ fn rule_of(count: Option<u64>, start: Option<u64>) -> Option<Data>
     ensures { λ r. ⌜ mapped bytesOf r ≡ ruledBy count start ⌝ }
 {
     match (count, start) {
-        (Some(count), Some(start)) if count <= 16_777_216 => Some(Data::Generated(count as usize, start)),
+        (Some(count), Some(start)) if count <= 16_777_216 => Some(Data::Generated(
+            count as usize,
+            start,
+        )),
         _ => None,
     }
 }

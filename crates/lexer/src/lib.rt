@@ -1,6 +1,5 @@
-//! What the words of a scenario say: lines and words cut from a text, numbers, and bytes.
+//! What the words of a scenario say: lines and words cut from a text, and bytes; numbers are handed on.
 pub mod data;
-pub mod number;
 pub mod parts;
 pub mod words;
 
@@ -8,10 +7,10 @@ pub use data::Data;
 pub use data::generate;
 pub use data::read_data;
 pub use data::read_hex;
-pub use number::read_u16;
-pub use number::read_u32;
-pub use number::read_u64;
-pub use number::read_u8;
+pub use numeral::read_u8;
+pub use numeral::read_u16;
+pub use numeral::read_u32;
+pub use numeral::read_u64;
 pub use parts::Stop;
 pub use parts::part_at;
 pub use words::Words;

@@ -2,7 +2,6 @@
 ghost use mathlib.Core.Path.{_≡_};
 ghost use Rattle.std.specs.Options.{mapped};
 ghost use Rattle.lexer.specs.Parts.{uncommented, fromWord, firstWord, afterWord};
-
 use crate::parts::Stop;
 use crate::parts::cut_at;
 

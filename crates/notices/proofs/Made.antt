@@ -10,7 +10,7 @@ use Rattle.std.proofs.shelf.Lists.{drop-drop}
 use Rattle.notices.specs.Blocks.{Notice, blockOf, flags, keyNumber, keyByte}
 
 pub made : (n : Notice) (f k : ℕ) (bytes rest : List ℕ) → f ≡ flags (n .key) → k ≡ keyNumber (n .key) → bytes ≡ n .bytes → rest ≡ replicate (56 - length (n .bytes)) 0
-  → _≡_ {A = List ℕ} (length (n .bytes) ∷ 0 ∷ n .source ∷ f ∷ k % 256 ∷ k / 256 % 256 ∷ k / 65536 % 256 ∷ 0 ∷ (bytes ++ rest)) (blockOf n)
+    → _≡_ {A = List ℕ} (length (n .bytes) ∷ 0 ∷ n .source ∷ f ∷ k % 256 ∷ k / 256 % 256 ∷ k / 65536 % 256 ∷ 0 ∷ (bytes ++ rest)) (blockOf n)
 made n f k bytes rest ef ek eb er =
     let a : k % 256 ≡ keyByte (n .key) 0 = ap (λ x. x % 256) (ek ∙ sym (div-one (keyNumber (n .key)))) in
     let b : k / 256 % 256 ≡ keyByte (n .key) 1 = ap (λ x. x / 256 % 256) ek in

@@ -113,7 +113,7 @@ refused-whole b f w =
     cond-both (eqb (number f) 16) (record { bytes = b .bytes; ring = b .ring; on = false; overflow = true }) b Whole (λ t. w) (λ t. w)
 
 arriving-steps : (b : Board) (n : Notice) (o : Option Refusal) → judged (rules b n) ≡ o → Whole b
-  → (left b ++ map blockOf (ifAccepted (answerBy o b) n) ≡ left (boardBy o b n)) × Whole (boardBy o b n)
+    → (left b ++ map blockOf (ifAccepted (answerBy o b) n) ≡ left (boardBy o b n)) × Whole (boardBy o b n)
 arriving-steps b n None e w =
     let f = fit b n e in
     let lt = room b n e in
@@ -122,7 +122,7 @@ arriving-steps b n (Some f) e w = (append-nil (left b) ∙ sym (refused-left b f
 
 -- taking the oldest
 taken-left : (b : Board) (p : ℕ) → oldest b ≡ Some p → Whole b → 0 < count 64 (b .ring)
-  → (left b ≡ shows (b .bytes) p ∷ left (takenOf (Some p) b)) × Whole (takenOf (Some p) b)
+    → (left b ≡ shows (b .bytes) p ∷ left (takenOf (Some p) b)) × Whole (takenOf (Some p) b)
 taken-left b p e w pos =
     let r = b .ring in
     let rest = rings.order 64 (rings.freed 64 r) in
@@ -136,15 +136,15 @@ taken-left b p e w pos =
     (ap (map (shows (b .bytes))) o ∙ ap (λ l. shows (b .bytes) p ∷ l) m, cleared-length (b .bytes) p ∙ w)
 
 taking-steps : (b : Board) (o : Option ℕ) → oldest b ≡ o → Whole b
-  → (left b ≡ ifTaken (takingOf o) b ++ left (takenOf o b)) × Whole (takenOf o b)
+    → (left b ≡ ifTaken (takingOf o) b ++ left (takenOf o b)) × Whole (takenOf o b)
 taking-steps b None e w = (refl, w)
 taking-steps b (Some p) e w =
     elim (cases-eq (count 64 (b .ring)) 0) [
-      inl z ↦
-        let none : rings.order 64 (b .ring) ≡ [] = ap (places 64 (b .ring .first)) z in
-        let q : None ≡ Some p = ap rings.oldest (sym none) ∙ e in
-        absurd (let k : _≡_ {A = ℕ} 0 1 = cc in omega arith)
-    | inr ne ↦ taken-left b p e w (omega arith)
+      | inl z ↦
+          let none : rings.order 64 (b .ring) ≡ [] = ap (places 64 (b .ring .first)) z in
+          let q : None ≡ Some p = ap rings.oldest (sym none) ∙ e in
+          absurd (let k : _≡_ {A = ℕ} 0 1 = cc in omega arith)
+      | inr ne ↦ taken-left b p e w (omega arith)
     ]
 
 steps : (b : Board) (e : Event) → Whole b → Steps b e × Whole (after b e)

@@ -40,7 +40,7 @@ mended-past a k xs ys h l le =
     let m : length (take a xs ++ ys) ≡ a + 64 = length-append (take a xs) ys ∙ (omega arith) in
     let e : length (take a xs ++ ys) + (k - (a + 64)) ≡ k = omega arith in
     let p : drop k (mended a xs ys) ≡ drop (k - (a + 64)) (drop (a + 64) xs) =
-        ap (drop k) (sym (append-assoc (take a xs) ys (drop (a + 64) xs))) ∙ ap (λ i. drop i ((take a xs ++ ys) ++ drop (a + 64) xs)) (sym e) ∙ drop-append-add (take a xs ++ ys) (drop (a + 64) xs) (k - (a + 64)) in
+    ap (drop k) (sym (append-assoc (take a xs) ys (drop (a + 64) xs))) ∙ ap (λ i. drop i ((take a xs ++ ys) ++ drop (a + 64) xs)) (sym e) ∙ drop-append-add (take a xs ++ ys) (drop (a + 64) xs) (k - (a + 64)) in
     ap (take 64) (p ∙ drop-drop (k - (a + 64)) (a + 64) xs ∙ ap (λ i. drop i xs) (omega arith))
 
 pub length-mended : (a : ℕ) (xs ys : List ℕ) → a + 64 ≤ length xs → length ys ≡ 64 → length (mended a xs ys) ≡ length xs
@@ -64,10 +64,10 @@ module _ (xs : List ℕ) (p : ℕ) (whole : length xs ≡ 4096) (lt : p < 64) wh
   pub with-other : (ys : List ℕ) (q : ℕ) → length ys ≡ 64 → (q ≡ p → ⊥) → shows (withBlock xs p ys) q ≡ shows xs q
   with-other ys q l ne =
       ap (λ b. shows b q) (with-is ys) ∙ elim (cases-order q p) [
-        inl e ↦ absurd (ne e)
-      | inr o ↦ elim o [
-          inl h ↦ mended-before (p * 64) (q * 64) xs ys (omega arith) (omega arith)
-        | inr h ↦ mended-past (p * 64) (q * 64) xs ys (omega arith) l (omega arith)
+        | inl e ↦ absurd (ne e)
+        | inr o ↦ elim o [
+          | inl h ↦ mended-before (p * 64) (q * 64) xs ys (omega arith) (omega arith)
+          | inr h ↦ mended-past (p * 64) (q * 64) xs ys (omega arith) l (omega arith)
         ]
       ]
 
@@ -79,13 +79,13 @@ pub cleared-other : (xs : List ℕ) (p q : ℕ) → (q ≡ p → ⊥) → shows 
 cleared-other xs p q ne =
     let v = getD xs (p * 64 + 3) 0 % 128 in
     elim (cases-order q p) [
-      inl e ↦ absurd (ne e)
-    | inr o ↦ elim o [
-        inl h ↦
-          let j = p * 64 + 3 - q * 64 in
-          let e : q * 64 + j ≡ p * 64 + 3 = omega arith in
-          ap (λ i. take 64 (drop (q * 64) (set xs i v))) (sym e) ∙ ap (take 64) (drop-set-add (q * 64) xs j v) ∙ take-set-le 64 (drop (q * 64) xs) j v (omega arith)
-      | inr h ↦ ap (take 64) (drop-set-lt (q * 64) xs (p * 64 + 3) v (omega arith))
+      | inl e ↦ absurd (ne e)
+      | inr o ↦ elim o [
+        | inl h ↦
+            let j = p * 64 + 3 - q * 64 in
+            let e : q * 64 + j ≡ p * 64 + 3 = omega arith in
+            ap (λ i. take 64 (drop (q * 64) (set xs i v))) (sym e) ∙ ap (take 64) (drop-set-add (q * 64) xs j v) ∙ take-set-le 64 (drop (q * 64) xs) j v (omega arith)
+        | inr h ↦ ap (take 64) (drop-set-lt (q * 64) xs (p * 64 + 3) v (omega arith))
       ]
     ]
 

@@ -58,10 +58,10 @@ full b = leb 64 (b .ring .used)
 -- the conditions on an arriving notice, each with its refusal
 abbrev pub rules : Board → Notice → List Rule
 rules b n =
-  record { holds = not (fits (n .key) (n .bytes)); brings = BadNotice }
-  ∷ record { holds = not (b .on); brings = NoticesOff }
-  ∷ record { holds = full b; brings = NoticesFull }
-  ∷ []
+    record { holds = not (fits (n .key) (n .bytes)); brings = BadNotice }
+    ∷ record { holds = not (b .on); brings = NoticesOff }
+    ∷ record { holds = full b; brings = NoticesFull }
+    ∷ []
 
 -- the block that the next notice fills
 abbrev pub next : Board → ℕ

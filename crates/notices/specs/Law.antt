@@ -69,10 +69,10 @@ left b = map (shows (b .bytes)) (rings.order 64 (b .ring))
 -- the notice that a block shows
 abbrev pub read : List ℕ → Notice
 read block = record {
-    source = getD block 2 0;
-    key = cond (eqb (getD block 3 0 / 64 % 2) 1) (Some (getD block 4 0 + 256 * getD block 5 0 + 65536 * getD block 6 0)) None;
-    bytes = take (getD block 0 0) (drop 8 block)
-  }
+  source = getD block 2 0;
+  key = cond (eqb (getD block 3 0 / 64 % 2) 1) (Some (getD block 4 0 + 256 * getD block 5 0 + 65536 * getD block 6 0)) None;
+  bytes = take (getD block 0 0) (drop 8 block);
+}
 
 -- From a new buffer on, whatever happens: the notices read from the blocks as they were taken, then from those left, are the accepted
 -- ones, each once, in order; and each of these blocks is the whole block of its notice. The refusals of an arriving notice come with

@@ -2,7 +2,6 @@
 ghost use denote.Ref.{name};
 ghost use mathlib.Core.Path.{_≡_};
 ghost use Rattle.notices.specs.Boards.{board, made, lentTo, switched, arriving, arrived, taking, taken};
-
 use crate::block::block_of;
 use crate::block::clear_valid;
 use crate::block::fits_block;

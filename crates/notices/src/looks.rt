@@ -2,7 +2,6 @@
 ghost use mathlib.Core.Path.{_≡_};
 ghost use Rattle.std.specs.Options.{mapped};
 ghost use Rattle.notices.specs.Boards.{board, seen};
-
 use crate::block::BLOCK;
 use crate::board::Notices;
 

@@ -1,120 +1,146 @@
 //! The bounds of notices, and the wrap of the blocks.
 use notices::Notices;
-use refusal::Refusal;
 use refusal::Party;
+use refusal::Refusal;
 use refusal::Spot;
 use refusal::reason::PartyDebug;
 use refusal::reason::PartyPartialEq;
-use refusal::reason::RefusalDebug;
-use refusal::reason::RefusalPartialEq;
 use refusal::text::RefusalDisplay;
 use std::test::*;
 
-// The number of a refused call's refusal; 0 where it was not refused.
-fn refused(result: Result<usize, Refusal>) -> u8 {
-    match result {
-        Ok(_) => 0,
-        Err(refusal) => refusal.number(),
-    }
+// Bytes for notices.
+const BYTES: [u8; 57] = [3; 57];
+
+// What is done to a notice buffer.
+#[derive(Clone, Copy)]
+enum Act {
+    // Switches on.
+    On,
+    // A notice of so many bytes arrives from a source, with a key or none.
+    Arrive(u8, Option<u32>, usize),
+    // Takes the oldest.
+    Take,
+    // Looks at a byte of a block.
+    Byte(u8, usize),
+    // Looks whether notices are on (1) and overflow is marked (2).
+    Marks,
 }
 
-// The block that was answered; 99 where the call was refused.
+// The block that was answered, or 100 and the number of the refusal.
 fn answered(result: Result<usize, Refusal>) -> usize {
     match result {
         Ok(block) => block,
-        Err(_) => 99,
+        Err(refusal) => 100 + refusal.number() as usize,
     }
 }
 
-// A byte of a block; 255 where there is no such block.
-fn shown(notices: &Notices, block: u8, at: usize) -> u8 {
-    match notices.block(block) {
-        Some(bytes) => bytes.get(at).copied().unwrap_or(255),
-        None => 255,
+// Does it, and says what came of it.
+fn done(notices: &mut Notices, act: Act) -> usize {
+    match act {
+        Act::On => {
+            notices.switch_on();
+            0
+        }
+        Act::Arrive(source, key, size) => answered(notices.arrive(
+            source,
+            key,
+            &BYTES[0..size.min(57)],
+        )),
+        Act::Take => answered(notices.take()),
+        Act::Byte(block, at) => match notices.block(block) {
+            Some(bytes) => bytes.get(at).copied().unwrap_or(255) as usize,
+            None => 999,
+        },
+        Act::Marks => notices.is_on() as usize + 2 * (notices.overflowed() as usize),
     }
+}
+
+// Does one thing after another on a new buffer, and compares.
+fn compared(rt: LibcRuntime, acts: &[(Act, usize)]) -> Result<(), Fail> {
+    let mut buffer = vec![in rt.alloc(); 7u8; 4096]?;
+    match Notices::new(buffer.as_mut_slice()) {
+        Ok(mut notices) => {
+            for (act, expected) in acts {
+                check_eq(done(&mut notices, *act), *expected)?;
+            }
+            Ok(())
+        }
+        Err(_) => Err(Fail::new("4,096 bytes are refused")),
+    }
+}
+
+// The same so often, each with the next block as its answer.
+fn in_turn(notices: &mut Notices, act: Act, first: usize, many: usize) -> bool {
+    let mut good = true;
+    for i in 0..many {
+        good = good && done(notices, act) == first.wrapping_add(i) % 64;
+    }
+    good
 }
 
 #[test]
 fn sizes_of_the_lent_buffer(rt: LibcRuntime) -> Result<(), Fail> {
     let mut short = vec![in rt.alloc(); 0u8; 4095]?;
     let mut long = vec![in rt.alloc(); 0u8; 4097]?;
-    let mut right = vec![in rt.alloc(); 7u8; 4096]?;
     check(Notices::new(short.as_mut_slice()).is_err())?;
     check(Notices::new(long.as_mut_slice()).is_err())?;
-    match Notices::new(right.as_mut_slice()) {
-        Ok(notices) => {
-            check_eq(shown(&notices, 0, 0), 0)?;
-            check_eq(shown(&notices, 63, 63), 0)?;
-            check(!notices.is_on() && !notices.overflowed())
-        }
-        Err(_) => Err(Fail::new("4,096 bytes are refused")),
-    }
+    compared(
+        rt,
+        &[
+            (Act::Byte(0, 0), 0),
+            (Act::Byte(63, 63), 0),
+            (Act::Byte(64, 0), 999),
+            (Act::Marks, 0),
+        ],
+    )
 }
 
 #[test]
 fn sizes_and_keys_of_notices(rt: LibcRuntime) -> Result<(), Fail> {
-    let bytes = vec![in rt.alloc(); 3u8; 57]?;
-    check(bytes.len() == 57)?;
-    let mut buffer = vec![in rt.alloc(); 0u8; 4096]?;
-    match Notices::new(buffer.as_mut_slice()) {
-        Ok(mut notices) => {
-            check_eq(refused(notices.arrive(1, None, &bytes[0..0])), 14)?;
-            check_eq(refused(notices.arrive(1, None, &bytes[0..1])), 15)?;
-            notices.switch_on();
-            check_eq(answered(notices.arrive(1, None, &bytes[0..1])), 0)?;
-            check_eq(answered(notices.arrive(1, None, &bytes[0..56])), 1)?;
-            check_eq(refused(notices.arrive(1, None, &bytes[0..57])), 14)?;
-            check_eq(answered(notices.arrive(9, Some(16_777_215), &bytes[0..2])), 2)?;
-            check_eq(refused(notices.arrive(9, Some(16_777_216), &bytes[0..2])), 14)?;
-            check_eq(shown(&notices, 0, 3), 0x80)?;
-            check_eq(shown(&notices, 1, 0), 56)?;
-            check_eq(shown(&notices, 1, 63), 3)?;
-            check_eq(shown(&notices, 2, 2), 9)?;
-            check_eq(shown(&notices, 2, 3), 0xc0)?;
-            check_eq(shown(&notices, 2, 6), 255)?;
-            check_eq(shown(&notices, 2, 7), 0)
-        }
-        Err(_) => Err(Fail::new("4,096 bytes are refused")),
-    }
+    compared(
+        rt,
+        &[
+            (Act::Arrive(1, None, 0), 114),
+            (Act::Arrive(1, None, 1), 115),
+            (Act::Take, 110),
+            (Act::On, 0),
+            (Act::Arrive(1, None, 1), 0),
+            (Act::Arrive(1, None, 56), 1),
+            (Act::Arrive(1, None, 57), 114),
+            (Act::Arrive(9, Some(16_777_215), 2), 2),
+            (Act::Arrive(9, Some(16_777_216), 2), 114),
+            (Act::Byte(0, 3), 0x80),
+            (Act::Byte(1, 0), 56),
+            (Act::Byte(1, 63), 3),
+            (Act::Byte(2, 2), 9),
+            (Act::Byte(2, 3), 0xc0),
+            (Act::Byte(2, 6), 255),
+            (Act::Byte(2, 7), 0),
+            (Act::Take, 0),
+            (Act::Byte(0, 3), 0),
+        ],
+    )
 }
 
 #[test]
-fn a_full_buffer(rt: LibcRuntime) -> Result<(), Fail> {
+fn full_and_round(rt: LibcRuntime) -> Result<(), Fail> {
     let mut buffer = vec![in rt.alloc(); 0u8; 4096]?;
     match Notices::new(buffer.as_mut_slice()) {
         Ok(mut notices) => {
-            notices.switch_on();
-            check_eq(refused(notices.take()), 10)?;
-            for i in 0..64usize {
-                check_eq(answered(notices.arrive(5, None, b"ab")), i)?;
-            }
-            check_eq(refused(notices.arrive(6, None, b"ab")), 16)?;
-            check(!notices.is_on() && notices.overflowed())?;
-            check_eq(shown(&notices, 0, 2), 5)?;
-            check_eq(refused(notices.arrive(6, None, b"ab")), 15)?;
-            check_eq(answered(notices.take()), 0)?;
-            check_eq(shown(&notices, 0, 3), 0)?;
-            notices.switch_on();
-            check(notices.is_on() && !notices.overflowed())?;
-            check_eq(answered(notices.arrive(6, Some(1), b"ab")), 0)?;
-            check_eq(shown(&notices, 0, 3), 0xc0)?;
-            check_eq(answered(notices.take()), 1)
-        }
-        Err(_) => Err(Fail::new("4,096 bytes are refused")),
-    }
-}
-
-#[test]
-fn blocks_go_round(rt: LibcRuntime) -> Result<(), Fail> {
-    let mut buffer = vec![in rt.alloc(); 0u8; 4096]?;
-    match Notices::new(buffer.as_mut_slice()) {
-        Ok(mut notices) => {
-            notices.switch_on();
-            for i in 0..200usize {
-                check_eq(answered(notices.arrive(1, None, b"x")), i % 64)?;
-                check_eq(answered(notices.take()), i % 64)?;
-            }
-            check_eq(refused(notices.take()), 10)
+            let good = done(&mut notices, Act::On) == 0
+                && in_turn(&mut notices, Act::Arrive(5, None, 2), 0, 64)
+                && done(&mut notices, Act::Arrive(6, None, 2)) == 116
+                && done(&mut notices, Act::Marks) == 2
+                && done(&mut notices, Act::Byte(0, 2)) == 5
+                && done(&mut notices, Act::Arrive(6, None, 2)) == 115
+                && in_turn(&mut notices, Act::Take, 0, 3)
+                && done(&mut notices, Act::On) == 0
+                && done(&mut notices, Act::Marks) == 1
+                && in_turn(&mut notices, Act::Arrive(6, Some(1), 2), 0, 3)
+                && done(&mut notices, Act::Byte(0, 3)) == 0xc0
+                && in_turn(&mut notices, Act::Take, 3, 64)
+                && done(&mut notices, Act::Take) == 110;
+            check(good)
         }
         Err(_) => Err(Fail::new("4,096 bytes are refused")),
     }

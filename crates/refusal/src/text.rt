@@ -2,7 +2,6 @@
 ghost use mathlib.Core.Path.{_≡_};
 ghost use Rattle.std.specs.declared.option.Option.the-variants.{Some};
 ghost use Rattle.refusal.specs.Texts.{words, pointed, written};
-
 use crate::reason::Refusal;
 use crate::reason::Spot;
 use std::fmt;

@@ -15,11 +15,11 @@ mod-apart n x d pos lt e =
     let below : x % n < n = mod-lt x (omega arith) in
     let s : (x % n + d) % n ≡ x % n = mod-add-mod x n d ∙ e in
     elim (cases-lt (x % n + d) n) [
-      inl h ↦ let t : x % n + d ≡ x % n = sym (mod-eq-of-lt h) ∙ s in omega arith
-    | inr h ↦
-        let small : x % n + d - n < n = omega arith in
-        let t : x % n + d - n ≡ x % n = sym (mod-eq-of-lt small) ∙ sym (mod-eq-sub-mod h) ∙ s in
-        omega arith
+      | inl h ↦ let t : x % n + d ≡ x % n = sym (mod-eq-of-lt h) ∙ s in omega arith
+      | inr h ↦
+          let small : x % n + d - n < n = omega arith in
+          let t : x % n + d - n ≡ x % n = sym (mod-eq-of-lt small) ∙ sym (mod-eq-sub-mod h) ∙ s in
+          omega arith
     ]
 
 avoid-from : (n g k p : ℕ) → ((i : ℕ) → i < k → (g + i) % n ≡ p → ⊥) → Avoids p (places n g k)

@@ -25,17 +25,17 @@ Step n r s plus minus = order n r ++ plus ≡ minus ++ order n s
 pub taking-steps : (n : ℕ) (r : Ring n) → Step n r (taken n r) (listOf (following n r)) []
 taking-steps n r =
     elim (cases-lt (r .used) n) [
-      inl h ↦
-        let p = (r .first + r .used) % n in
-        let t = took n r p h refl in
-        let a : following n r ≡ Some p = sym (t .answer) in
-        let b : taken n r ≡ record { first = r .first; used = r .used + 1 } = sym (t .after) in
-        ap (λ o. order n r ++ listOf o) a ∙ sym (t .order) ∙ ap (order n) (sym b)
-    | inr h ↦
-        let e : leb n (r .used) ≡ true = le-leb n (r .used) h in
-        let a : following n r ≡ None = cond-true (leb n (r .used)) None (Some ((r .first + r .used) % n)) e in
-        let b : taken n r ≡ r = cond-true (leb n (r .used)) r (record { first = r .first; used = r .used + 1 }) e in
-        ap (λ o. order n r ++ listOf o) a ∙ append-nil (order n r) ∙ ap (order n) (sym b)
+      | inl h ↦
+          let p = (r .first + r .used) % n in
+          let t = took n r p h refl in
+          let a : following n r ≡ Some p = sym (t .answer) in
+          let b : taken n r ≡ record { first = r .first; used = r .used + 1 } = sym (t .after) in
+          ap (λ o. order n r ++ listOf o) a ∙ sym (t .order) ∙ ap (order n) (sym b)
+      | inr h ↦
+          let e : leb n (r .used) ≡ true = le-leb n (r .used) h in
+          let a : following n r ≡ None = cond-true (leb n (r .used)) None (Some ((r .first + r .used) % n)) e in
+          let b : taken n r ≡ r = cond-true (leb n (r .used)) r (record { first = r .first; used = r .used + 1 }) e in
+          ap (λ o. order n r ++ listOf o) a ∙ append-nil (order n r) ∙ ap (order n) (sym b)
     ]
 
 -- freeing the oldest, in a ring with a place in use
@@ -51,12 +51,12 @@ freed-none n r z =
 pub freeing-steps : (n : ℕ) (r : Ring n) → Step n r (freed n r) [] (listOf (oldest (order n r)))
 freeing-steps n r =
     elim (cases-eq (count n r) 0) [
-      inl z ↦
-        let a = freed-none n r z in
-        append-nil (order n r) ∙ a .1 ∙ ap (λ xs. listOf (oldest xs) ++ []) (sym (a .1)) ∙ ap (λ xs. listOf (oldest (order n r)) ++ xs) (sym (ap (order n) (a .0) ∙ a .1))
-    | inr ne ↦
-        let a = freed-some n r (omega arith) in
-        append-nil (order n r) ∙ a ∙ ap (λ xs. listOf (oldest xs) ++ order n (freed n r)) (sym a)
+      | inl z ↦
+          let a = freed-none n r z in
+          append-nil (order n r) ∙ a .1 ∙ ap (λ xs. listOf (oldest xs) ++ []) (sym (a .1)) ∙ ap (λ xs. listOf (oldest (order n r)) ++ xs) (sym (ap (order n) (a .0) ∙ a .1))
+      | inr ne ↦
+          let a = freed-some n r (omega arith) in
+          append-nil (order n r) ∙ a ∙ ap (λ xs. listOf (oldest xs) ++ order n (freed n r)) (sym a)
     ]
 
 pub steps : (n : ℕ) (r : Ring n) (a : Act) → Step n r (acted n r a) (gained n r a) (lost n r a)
@@ -85,8 +85,8 @@ turn-order n r = ap (places n (r .first)) (sym (places-length n (r .first) (coun
 taken-first : (n : ℕ) (r : Ring n) → taken n r .first ≡ r .first
 taken-first n r =
     elim (cases-lt (r .used) n) [
-      inl h ↦ ap (λ s. s .first) (sym (took n r ((r .first + r .used) % n) h refl .after))
-    | inr h ↦ ap (λ s. s .first) (cond-true (leb n (r .used)) r (record { first = r .first; used = r .used + 1 }) (le-leb n (r .used) h))
+      | inl h ↦ ap (λ s. s .first) (sym (took n r ((r .first + r .used) % n) h refl .after))
+      | inr h ↦ ap (λ s. s .first) (cond-true (leb n (r .used)) r (record { first = r .first; used = r .used + 1 }) (le-leb n (r .used) h))
     ]
 
 freed-first : (n : ℕ) (r : Ring n) → 0 < count n r → freed n r .first ≡ (r .first + 1) % n
@@ -97,19 +97,19 @@ freed-first n r h =
 round-taking : (n : ℕ) (r : Ring n) (later : List ℕ) → Turn n (taken n r .first) (order n (taken n r) ++ later) → Turn n (r .first) (order n r ++ (listOf (following n r) ++ later))
 round-taking n r later t =
     let e : order n r ++ (listOf (following n r) ++ later) ≡ order n (taken n r) ++ later =
-        sym (append-assoc (order n r) (listOf (following n r)) later) ∙ ap (λ xs. xs ++ later) (taking-steps n r) in
+    sym (append-assoc (order n r) (listOf (following n r)) later) ∙ ap (λ xs. xs ++ later) (taking-steps n r) in
     let P : List ℕ → Type 0 = λ xs. Turn n (r .first) xs in
     subst P (sym e) (t ∙ ap (λ f. places n f (length (order n (taken n r) ++ later))) (taken-first n r))
 
 round-freeing : (n : ℕ) (r : Ring n) (later : List ℕ) → Turn n (freed n r .first) (order n (freed n r) ++ later) → Turn n (r .first) (order n r ++ later)
 round-freeing n r later t =
     elim (cases-eq (count n r) 0) [
-      inl z ↦ let P : Ring n → Type 0 = λ s. Turn n (s .first) (order n s ++ later) in subst P (freed-none n r z .0) t
-    | inr ne ↦
-        let pos : 0 < count n r = omega arith in
-        let g : freed n r .first % n ≡ suc (r .first) % n = ap (λ x. x % n) (freed-first n r pos) ∙ mod-mod (r .first + 1) n ∙ ap (λ x. x % n) (add-one (r .first)) in
-        let P : List ℕ → Type 0 = λ xs. Turn n (r .first) (xs ++ later) in
-        subst P (sym (freed-some n r pos)) (turn-cons n (r .first) (freed n r .first) (order n (freed n r) ++ later) g t)
+      | inl z ↦ let P : Ring n → Type 0 = λ s. Turn n (s .first) (order n s ++ later) in subst P (freed-none n r z .0) t
+      | inr ne ↦
+          let pos : 0 < count n r = omega arith in
+          let g : freed n r .first % n ≡ suc (r .first) % n = ap (λ x. x % n) (freed-first n r pos) ∙ mod-mod (r .first + 1) n ∙ ap (λ x. x % n) (add-one (r .first)) in
+          let P : List ℕ → Type 0 = λ xs. Turn n (r .first) (xs ++ later) in
+          subst P (sym (freed-some n r pos)) (turn-cons n (r .first) (freed n r .first) (order n (freed n r) ++ later) g t)
     ]
 
 round-step : (n : ℕ) (r : Ring n) (a : Act) (later : List ℕ) → Turn n (acted n r a .first) (order n (acted n r a) ++ later) → Turn n (r .first) (order n r ++ (gained n r a ++ later))

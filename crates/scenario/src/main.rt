@@ -1,7 +1,11 @@
 //! The program `scenario`: reads scenarios from the files that its arguments name, or from standard input, and plays each.
 use notices::Notices;
+use pile::Pile;
+use player::build_pile;
+use player::carry_out;
 use refusal::text::RefusalDisplay;
-use script::carry_out;
+use script::Line;
+use script::Script;
 use script::fault::WrongDisplay;
 use script::read_script;
 use std::alloc::Global;
@@ -15,9 +19,15 @@ use std::io::Read;
 const NOTICE_BYTES: usize = 4096;
 
 // Plays the lines of a scenario, one answer a line.
-fn play_lines(rt: &LibcRuntime, heap: Global, lines: Vec<script::Line>, notices: &mut Notices) -> io::Result<()> {
+fn play_lines(
+    rt: &LibcRuntime,
+    heap: Global,
+    lines: Vec<Line>,
+    notices: &mut Notices,
+    pile: &Pile,
+) -> io::Result<()> {
     for line in lines {
-        let answer = carry_out(heap, notices, line)?;
+        let answer = carry_out(heap, notices, pile, line)?;
         println!(rt, "{answer}")?;
     }
     Ok(())
@@ -26,8 +36,8 @@ fn play_lines(rt: &LibcRuntime, heap: Global, lines: Vec<script::Line>, notices:
 // Plays one scenario from a new start; false if its text cannot be read.
 fn play(rt: &LibcRuntime, name: &str, text: &[u8]) -> io::Result<bool> {
     let heap = rt.alloc();
-    let lines = match read_script(heap, text) {
-        Ok(lines) => lines,
+    let Script { devices, lines } = match read_script(heap, text) {
+        Ok(script) => script,
         Err(fault) => {
             let line = fault.line;
             let wrong = fault.wrong;
@@ -35,10 +45,11 @@ fn play(rt: &LibcRuntime, name: &str, text: &[u8]) -> io::Result<bool> {
             return Ok(false);
         }
     };
+    let pile = build_pile(heap, devices)?;
     let mut buffer = vec![in heap; 0u8; NOTICE_BYTES]?;
     match Notices::new(buffer.as_mut_slice()) {
         Ok(mut notices) => {
-            play_lines(rt, heap, lines, &mut notices)?;
+            play_lines(rt, heap, lines, &mut notices, &pile)?;
             Ok(true)
         }
         Err(refusal) => {
@@ -76,5 +87,9 @@ fn main(rt: LibcRuntime) -> Result<(), AnyError> {
     if !named {
         good = play_input(&rt)?;
     }
-    if good { Ok(()) } else { Err("a scenario could not be read".into()) }
+    if good {
+        Ok(())
+    } else {
+        Err("a scenario could not be read".into())
+    }
 }

@@ -1,3 +1,2 @@
 -- The root of the scenario language's definitions.
 pub mod Faults
-pub mod Carrying

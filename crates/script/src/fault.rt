@@ -3,7 +3,6 @@ ghost use Rattle.std.specs.declared.option.Option.the-variants.{Some};
 ghost use mathlib.Core.Path.{_≡_};
 ghost use Rattle.script.specs.Faults.{texted};
 ghost use Rattle.script.specs.declared.fault.Wrong.the-variants.{NoMemory};
-
 use std::alloc::AllocError;
 use std::alloc::Refused;
 use std::fmt;
@@ -23,6 +22,12 @@ pub enum Wrong {
     BadData,
     /// There are blocks 0 to 63.
     NoSuchBlock,
+    /// There are at most four devices.
+    FifthDevice,
+    /// An option is given twice, or before the last plain word.
+    MisplacedOption,
+    /// There is no sink at that pipe.
+    NotASink,
     /// There was no memory to read the line.
     NoMemory,
 }
@@ -36,7 +41,7 @@ pub struct Fault {
 
 impl Wrong {
     /// The fault in words.
-    pub fn words(self) -> &'static str
+    fn words(self) -> &'static str
         ensures { λ r. ⌜ now r ≡ texted self ⌝ }
     {
         match self {
@@ -46,6 +51,9 @@ impl Wrong {
             Wrong::BadNumber => "number malformed or too large",
             Wrong::BadData => "bytes malformed or too many",
             Wrong::NoSuchBlock => "block above 63",
+            Wrong::FifthDevice => "a fifth device",
+            Wrong::MisplacedOption => "an option given twice, or before the last plain word",
+            Wrong::NotASink => "no sink at that pipe",
             Wrong::NoMemory => "no memory to read it",
         }
     }

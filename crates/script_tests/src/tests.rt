@@ -1,14 +1,15 @@
 //! Texts that cannot be read are told by their line; others are answered line by line.
 use notices::Notices;
+use player::build_pile;
+use player::carry_out;
 use script::Wrong;
-use script::carry_out;
 use script::fault::WrongDebug;
 use script::fault::WrongPartialEq;
 use script::read_script;
 use std::test::*;
 
 // Texts that cannot be read: the line that is at fault, and what is wrong with it.
-const BAD: [(&str, usize, Wrong); 16] = [
+const BAD: [(&str, usize, Wrong); 25] = [
     ("take\nfetch", 2, Wrong::UnknownWord),
     ("TAKE", 1, Wrong::UnknownWord),
     ("notices off", 1, Wrong::UnknownWord),
@@ -25,6 +26,19 @@ const BAD: [(&str, usize, Wrong); 16] = [
     ("notice 1 - gen:16777217:0", 1, Wrong::BadData),
     ("notice 1 - gen:1", 1, Wrong::BadData),
     ("block 64", 1, Wrong::NoSuchBlock),
+    ("reader hex:", 1, Wrong::MissingWord),
+    ("reader hex: 1 loss=1 2", 1, Wrong::MisplacedOption),
+    ("plain loss=1 1 2", 1, Wrong::MisplacedOption),
+    ("plain 1 2 loss=1 busy=2 loss=3", 1, Wrong::MisplacedOption),
+    ("plain 1 2 3", 1, Wrong::ExtraWord),
+    ("gathering 1 2 lost=1", 1, Wrong::UnknownWord),
+    ("gathering 1 18446744073709551616", 1, Wrong::BadNumber),
+    (
+        "plain 1 1\nplain 1 1\nplain 1 1\nplain 1 1\nreader hex: 0",
+        5,
+        Wrong::FifthDevice,
+    ),
+    ("reader hex: 0\ntaken 0", 2, Wrong::NotASink),
 ];
 
 #[test]
@@ -42,11 +56,22 @@ fn faults_by_line(rt: LibcRuntime) -> Result<(), Fail> {
 }
 
 // Lines and their answers, in order.
-const PLAYED: [(&str, &str); 7] = [
+const PLAYED: [(&str, &str); 9] = [
     ("\t notices  on\r", "notices: on"),
     ("notice 0x0A 0xffFFff hex:0aF0", "notice: block 0"),
-    ("block 0x00", "block 0x00: 02000ac0ffffff000af0000000000000000000000000000000000000000000000000000000000000000000000000000000000000000000000000000000000000"),
-    ("notice 1 16777216 hex:", "notice: refused 14: notice size or key"),
+    (
+        "block 0x00",
+        "block 0x00: 02000ac0ffffff000af0000000000000000000000000000000000000000000000000000000000000000000000000000000000000000000000000000000000000",
+    ),
+    (
+        "notice 1 16777216 hex:",
+        "notice: refused 14: notice size or key",
+    ),
+    ("reader hex:0102 1 1 busy=0x5", "reader: pipe 0, inward"),
+    (
+        "gathering 100 0x10 busy=1 loss=2",
+        "gathering: pipe 0, outward",
+    ),
     ("take#now", "take: block 0"),
     ("take", "take: refused 10: nothing to reap or take"),
     ("overflow", "overflow: notices on, no overflow"),
@@ -60,10 +85,12 @@ fn answers_line_by_line(rt: LibcRuntime) -> Result<(), Fail> {
         Ok(mut notices) => {
             for (text, expected) in PLAYED {
                 match read_script(heap, text.as_bytes()) {
-                    Ok(lines) => {
-                        for line in lines {
-                            check_eq(line.number, 1)?;
-                            check(carry_out(heap, &mut notices, line)?.as_str() == expected).note(expected)?;
+                    Ok(script) => {
+                        let pile = build_pile(heap, script.devices)?;
+                        for line in script.lines {
+                            check(
+                                carry_out(heap, &mut notices, &pile, line)?.as_str() == expected,
+                            ).note(expected)?;
                         }
                     }
                     Err(_) => return Err(Fail::new(text)),

@@ -2,8 +2,8 @@
 use native.Mathlib.Omega.{arith}
 use mathlib.Core.Path.{sym, ap, _∙_}
 use Rattle.std.proofs.shelf.Lists.{drop-all}
-use Rattle.lexer.specs.Numbers.{allDigits}
-use Rattle.lexer.proofs.Values.{digit-next, digit-not}
+use Rattle.numeral.specs.Numbers.{allDigits}
+use Rattle.numeral.proofs.Values.{digit-next, digit-not}
 use Rattle.lexer.proofs.data.all_hex.Needs as need
 
 pub returns-then-digit-of-ge16 : need.returns-then-digit-of-ge16

@@ -1,7 +1,7 @@
 -- The digits still to come decide.
 use mathlib.Core.Path.{_≡_}
 use lib.ListN.{drop}
-use Rattle.lexer.specs.Numbers.{allDigits}
+use Rattle.numeral.specs.Numbers.{allDigits}
 use Rattle.lexer.proofs.data.all_hex.Given as given
 
 abbrev pub Inv-loop-byte : given.InvT-loop-byte

@@ -8,7 +8,7 @@ use Rattle.std.specs.Iters.{counting}
 use Rattle.std.proofs.shelf.Counted.{map-counting-more}
 use Rattle.std.proofs.shelf.Parts.{pushed}
 use Rattle.lexer.specs.Bytes.{pairAt}
-use Rattle.lexer.proofs.Values.{digit-at}
+use Rattle.numeral.proofs.Values.{digit-at}
 use Rattle.lexer.proofs.data.pairs.Needs as need
 
 pub pair-requires : need.pair-requires

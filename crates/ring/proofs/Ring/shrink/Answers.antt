@@ -15,7 +15,7 @@ returns g c =
     let some : 0 < count (g .N) r = c .pre in
     let pos : 0 < g .N = omega arith in
     let next : c .if-first .self ≡ (r .first + 1) % g .N =
-        elim (c .if-first .came) [ then-first w ↦ w .self-is ∙ next-first (g .N) (r .first) (w .if-first .taken) | else-first w ↦ w .self-is ∙ next-place (g .N) (r .first) pos (w .if-first .left) ] in
+    elim (c .if-first .came) [ then-first w ↦ w .self-is ∙ next-first (g .N) (r .first) (w .if-first .taken) | else-first w ↦ w .self-is ∙ next-place (g .N) (r .first) pos (w .if-first .left) ] in
     let less : c .used-used .result - 1 ≡ count (g .N) r - 1 = ap (λ u. u - 1) (c .used-used .ensures) in
     let t = let-go (g .N) r _ _ _ some refl next less in
     record { answer = refl; after = cc; order = t .order }

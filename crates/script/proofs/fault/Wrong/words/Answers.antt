@@ -23,3 +23,12 @@ returns-in-NoMemory c = sym (ap texted (c .in-NoMemory .is))
 
 pub returns-in-ExtraWord : need.returns-in-ExtraWord
 returns-in-ExtraWord c = sym (ap texted (c .in-ExtraWord .is))
+
+pub returns-in-FifthDevice : need.returns-in-FifthDevice
+returns-in-FifthDevice c = sym (ap texted (c .in-FifthDevice .is))
+
+pub returns-in-MisplacedOption : need.returns-in-MisplacedOption
+returns-in-MisplacedOption c = sym (ap texted (c .in-MisplacedOption .is))
+
+pub returns-in-NotASink : need.returns-in-NotASink
+returns-in-NotASink c = sym (ap texted (c .in-NotASink .is))

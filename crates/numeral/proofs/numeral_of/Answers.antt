@@ -7,9 +7,9 @@ use mathlib.Core.Logic.{_⊎_, inl, inr}
 use lib.ListN.{length, getD, drop}
 use Rattle.std.proofs.shelf.Lists.{drop-all}
 use Rattle.std.proofs.shelf.Tests.{cases-lt}
-use Rattle.lexer.specs.Numbers.{digit}
-use Rattle.lexer.proofs.Values.{read-digit, no-digit, too-large, read-all}
-use Rattle.lexer.proofs.number.numeral_of.Needs as need
+use Rattle.numeral.specs.Numbers.{digit}
+use Rattle.numeral.proofs.Values.{read-digit, no-digit, too-large, read-all}
+use Rattle.numeral.proofs.numeral_of.Needs as need
 
 pub returns-then-digit-base : need.returns-then-digit-base
 returns-then-digit-base c =

@@ -2,10 +2,10 @@
 ghost use Prim.Native.Nat.{_^_, _≤_};
 ghost use Rattle.std.specs.Options.{mapped};
 ghost use mathlib.Core.Path.{_≡_};
-ghost use Rattle.lexer.specs.Numbers.{digit, numeral, hexPart, number, narrow};
+ghost use Rattle.numeral.specs.Numbers.{digit, numeral, hexPart, number, narrow};
 
-// The value of a digit, 255 for a byte that is none.
-pub(crate) fn digit_of(byte: u8) -> u8
+/// The value of a digit of either case, 255 for a byte that is none.
+pub fn digit_of(byte: u8) -> u8
     ensures { λ r. ⌜ r ≡ digit byte ⌝ }
 {
     match byte {

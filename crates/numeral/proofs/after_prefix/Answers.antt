@@ -6,8 +6,8 @@ use lib.ListN.{length, getD, drop}
 use Rattle.std.proofs.shelf.Lists.{take-rest}
 use Rattle.std.proofs.shelf.Tests.{cond-true, and-from, le-leb, eq-eqb}
 use Rattle.std.specs.declared.option.Option.the-variants.{Some, None}
-use Rattle.lexer.specs.Numbers.{prefixed}
-use Rattle.lexer.proofs.number.after_prefix.Needs as need
+use Rattle.numeral.specs.Numbers.{prefixed}
+use Rattle.numeral.proofs.after_prefix.Needs as need
 
 pub returns-then-word-eq120 : need.returns-then-word-eq120
 returns-then-word-eq120 c =

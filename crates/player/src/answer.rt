@@ -3,34 +3,35 @@ ghost use denote.Ref.{name};
 ghost use mathlib.Core.Path.{_≡_};
 ghost use Rattle.std.specs.Vec.{made};
 ghost use Rattle.notices.specs.Boards.{board};
-ghost use Rattle.script.specs.Carrying.{carried};
-
-use crate::command::Command;
-use crate::command::Line;
+ghost use Rattle.player.specs.Carrying.{carried};
+use crate::glance::Glance;
+use crate::glance::GlanceDisplay;
+use crate::glance::Hex;
+use crate::glance::HexDisplay;
+use choice::ChoiceLink;
+use devices::ReaderLink;
+use devices::SinkLink;
+use layers::BusyLink;
+use layers::JointLink;
+use layers::LossLink;
+use link::Direction;
+use link::Link;
 use notices::Notices;
+use pile::Pile;
+use pile::sink_at;
 use refusal::Refusal;
 use refusal::text::RefusalDisplay;
+use script::Command;
+use script::Line;
 use std::alloc::AllocError;
 use std::alloc::Global;
-use std::fmt;
-
-/// Bytes in hexadecimal, two digits to a byte.
-#[derive(Clone, Copy)]
-pub struct Hex<'a> {
-    pub bytes: &'a [u8],
-}
-
-pub impl fmt::Display for Hex<'_> as HexDisplay {
-    fn fmt<W: fmt::Write>(&self, f: &mut fmt::Formatter<W>) -> fmt::Result {
-        for byte in self.bytes {
-            write!(f, "{byte:02x}")?;
-        }
-        Ok(())
-    }
-}
 
 // The block that a call answered, or its refusal.
-fn block_answer(heap: Global, label: &str, result: Result<usize, Refusal>) -> Result<String, AllocError> {
+fn block_answer(
+    heap: Global,
+    label: &str,
+    result: Result<usize, Refusal>,
+) -> Result<String, AllocError> {
     match result {
         Ok(block) => format!(heap, "{label}: block {block}"),
         Err(refusal) => format!(heap, "{label}: {refusal}"),
@@ -40,18 +41,56 @@ fn block_answer(heap: Global, label: &str, result: Result<usize, Refusal>) -> Re
 // Whether notices are on, and the overflow mark.
 fn overflow_answer(heap: Global, label: &str, notices: &Notices) -> Result<String, AllocError> {
     let on = if notices.is_on() { "on" } else { "off" };
-    let mark = if notices.overflowed() { "overflow marked" } else { "no overflow" };
+    let mark = if notices.overflowed() {
+        "overflow marked"
+    } else {
+        "no overflow"
+    };
     format!(heap, "{label}: notices {on}, {mark}")
 }
 
+// A device's pipe and its direction.
+fn device_answer(heap: Global, label: &str, pile: &Pile, pipe: u8) -> Result<String, AllocError> {
+    match pile.describe(pipe) {
+        Some(Direction::Inward) => format!(heap, "{label}: pipe {pipe}, inward"),
+        Some(Direction::Outward) => format!(heap, "{label}: pipe {pipe}, outward"),
+        None => format!(heap, "{label}: no pipe"),
+    }
+}
+
+// What a sink took in its term.
+fn taken_answer(heap: Global, label: &str, pile: &Pile, pipe: u8) -> Result<String, AllocError> {
+    match sink_at(pile, pipe) {
+        Some(sink) => {
+            let packets = sink.taken_lengths().len();
+            let glance = Glance {
+                bytes: sink.taken_bytes(),
+            };
+            format!(heap, "{label}: {packets} packets, {glance}")
+        }
+        None => format!(heap, "{label}: no sink"),
+    }
+}
+
 /// Carries out a line's command; what it answers, as a line of text.
-pub fn carry_out(heap: Global, notices: &mut Notices, line: Line) -> Result<String, AllocError>
+pub fn carry_out(
+    heap: Global,
+    notices: &mut Notices,
+    pile: &Pile,
+    line: Line,
+) -> Result<String, AllocError>
     ensures after { λ r. ⌜ made r (λ _. board (now (notices .exit)) ≡ carried (board (now (notices .entry))) (line .command)) ⌝ }
     ensures lent { λ _. ⌜ name (now (notices .exit) .buffer) ≡ name (now (notices .entry) .buffer) ⌝ }
 {
-    let Line { number: _, label, command } = line;
+    let Line {
+        number: _,
+        label,
+        command,
+    } = line;
     let label = label.as_str();
     match command {
+        Command::Device(pipe) => device_answer(heap, label, pile, pipe),
+        Command::Taken(pipe) => taken_answer(heap, label, pile, pipe),
         Command::NoticesOn => {
             notices.switch_on();
             format!(heap, "{label}: on")

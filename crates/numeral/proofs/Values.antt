@@ -12,7 +12,7 @@ use lib.Seq.{drop-cons}
 use Rattle.std.specs.declared.option.Option.the-variants.{Some, None}
 use Rattle.std.specs.declared.option.Option.{Option}
 use Rattle.std.proofs.shelf.Tests.{cond-false, cond-true, le-ltb, lt-ltb, and-left, and-right, and-from, and-parts, ltb-true}
-use Rattle.lexer.specs.Numbers.{digit, allDigits, value, numeral}
+use Rattle.numeral.specs.Numbers.{digit, allDigits, value, numeral}
 
 grows : (base before : ℕ) (cs : List ℕ) → 1 ≤ base → before ≤ value base before cs
 grows base before [] h = omega arith
@@ -64,7 +64,7 @@ read-all base cs i before none r =
     let v : before ≡ value base 0 cs = sym (ap (value base before) none) ∙ r .same in
     let d : allDigits base cs ≡ true = sym (r .digits) ∙ ap (allDigits base) none in
     let t : ltb 0 (length cs) && (allDigits base cs && ltb (value base 0 cs) (2 ^ 64)) ≡ true =
-        and-from (ltb 0 (length cs)) (allDigits base cs && ltb (value base 0 cs) (2 ^ 64)) (lt-ltb 0 (length cs) (r .some)) (and-from (allDigits base cs) (ltb (value base 0 cs) (2 ^ 64)) d (lt-ltb (value base 0 cs) (2 ^ 64) (omega arith))) in
+    and-from (ltb 0 (length cs)) (allDigits base cs && ltb (value base 0 cs) (2 ^ 64)) (lt-ltb 0 (length cs) (r .some)) (and-from (allDigits base cs) (ltb (value base 0 cs) (2 ^ 64)) d (lt-ltb (value base 0 cs) (2 ^ 64) (omega arith))) in
     ap Some v ∙ sym (cond-true (ltb 0 (length cs) && (allDigits base cs && ltb (value base 0 cs) (2 ^ 64))) (Some (value base 0 cs)) None t)
 
 -- each of them is a digit

@@ -1,2 +1,0 @@
--- The root of the language's lemmas.
-pub mod Values

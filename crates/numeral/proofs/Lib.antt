@@ -1,0 +1,2 @@
+-- The root of the lemmas on written numbers.
+pub mod Values

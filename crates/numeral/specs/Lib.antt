@@ -1,0 +1,2 @@
+-- The root of the definitions of written numbers.
+pub mod Numbers
