@@ -1,4 +1,6 @@
 //! The devices at the far end of a link: a reader of messages, and sinks of packets, plain or gathering, each a link of one pipe.
+#![tactic(auto)]
+
 mod ahead;
 pub mod fixed;
 mod held;

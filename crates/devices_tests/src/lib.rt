@@ -1,4 +1,6 @@
 //! Tests of the window, the reader and the sinks at their bounds.
+#![tactic(auto)]
+
 #[cfg(test)]
 mod numbers;
 #[cfg(test)]

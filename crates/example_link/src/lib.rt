@@ -1,4 +1,6 @@
 //! A small link of one's own: a lamp, which takes one packet of one byte in each term, and shows it.
+#![tactic(auto)]
+
 ghost use Rattle.std.specs.Prelude.{◌≡◌, ℕ, true, length, None};
 ghost use Rattle.example_link.specs.Lamp.{CollectedLamp, FetchedLamp, PolledLamp, RestartedLamp, SentLamp, fits, lamp, shown};
 ghost use Rattle.link.specs.Bounds.{sound};

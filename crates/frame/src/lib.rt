@@ -1,4 +1,6 @@
 //! Theorems of the whole of memory: what is done to one piece leaves the others, and ownership is kept.
+#![tactic(auto)]
+
 ghost use Rattle.frame.specs.Frames.{Writes, Packets, ReadsBack, Puts, Reaps, Queues, Apart, Steady, Holders, Starts, Reads, Happens};
 
 /// A packet written into one buffer leaves every other, and every list, as it was.

@@ -1,4 +1,6 @@
 //! Two links side by side.
+#![tactic(auto)]
+
 ghost use Rattle.std.specs.Prelude.{◌≡◌, ℕ, ◌-◌, None, refl};
 ghost use Rattle.std.proofs.Common.{ap, sym, subst, rules};
 ghost use Rattle.joint.specs.Sides.{Counts, JoinsGapless, Routed, in_second, joint as sides};

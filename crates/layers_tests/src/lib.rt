@@ -1,4 +1,6 @@
 //! Tests of link and layers at their bounds, over the lamp.
+#![tactic(auto)]
+
 #[cfg(test)]
 mod packets;
 #[cfg(test)]

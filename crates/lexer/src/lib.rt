@@ -1,4 +1,6 @@
 //! What the words of a scenario say: lines and words cut from a text, and bytes; numbers are handed on.
+#![tactic(auto)]
+
 pub mod data;
 pub mod parts;
 pub mod words;

@@ -1,4 +1,6 @@
 //! The link: what carries packets between the engine and functions, with the meaning of its pipes.
+#![tactic(auto)]
+
 ghost use Rattle.std.specs.Prelude.{◌≡◌, ℕ, ◌≤◌, List, Option};
 ghost use Rattle.link.specs.Meaning.{Collects, Fetches, Only, Pipe, Polls, Restarts, Sends, absent, direction};
 ghost use Rattle.link.specs.Terms.{Bounded};

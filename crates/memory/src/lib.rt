@@ -1,4 +1,6 @@
 //! Host memory: buffers in its pages, the walk to a byte, packets in and out, and the judging of places.
+#![tactic(auto)]
+
 mod buffer;
 mod judge;
 mod packets;

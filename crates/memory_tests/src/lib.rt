@@ -1,4 +1,6 @@
 //! Tests of host memory and page owners at their bounds.
+#![tactic(auto)]
+
 use memory::{Buffer, Kind};
 use refusal::{Refusal, Spot};
 

@@ -1,4 +1,6 @@
 //! The device notice buffer: 64 blocks of 64 bytes in a lent buffer, filled in turn as notices arrive, taken oldest first.
+#![tactic(auto)]
+
 pub mod block;
 pub mod board;
 pub mod calls;

@@ -1,4 +1,6 @@
 //! Numbers as a scenario writes them: decimal digits, or hexadecimal ones after 0x.
+#![tactic(auto)]
+
 ghost use Rattle.std.specs.Prelude.{◌≡◌, ◌^◌, ◌≤◌};
 ghost use Rattle.std.specs.Option.{option_map};
 ghost use Rattle.numeral.specs.Numbers.{digit, numeral, hex_part, number, narrow};

@@ -1,4 +1,6 @@
 //! Who owns each page of host memory: claiming, releasing, and bytes put to pages that nobody owns.
+#![tactic(auto)]
+
 mod claims;
 mod naming;
 mod puts;

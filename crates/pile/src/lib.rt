@@ -1,4 +1,6 @@
 //! The pile of links that the program plays over: up to four devices side by side, each under a busy layer and a loss layer.
+#![tactic(auto)]
+
 ghost use Rattle.std.specs.Prelude.{◌≡◌};
 ghost use Rattle.pile.specs.Piles.{covered, sink_at, sink_in};
 ghost use Rattle.std.specs.Option.{option_map};

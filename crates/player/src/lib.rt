@@ -1,4 +1,6 @@
 //! Plays a scenario: builds its devices, carries out its commands and writes their answers as text.
+#![tactic(auto)]
+
 pub mod answer;
 pub mod build;
 pub mod glance;

@@ -1,4 +1,6 @@
 //! The reader: a link of one inward pipe, over given bytes and message lengths.
+#![tactic(auto)]
+
 mod cursor;
 pub mod fixed;
 pub mod reader;

@@ -1,4 +1,6 @@
 //! A ring of N places used in turn: which places are in use, from the oldest on. Slots and notices keep their order by it.
+#![tactic(auto)]
+
 ghost use Rattle.std.specs.Prelude.{◌≡◌, ◌+◌, ◌-◌, ◌%◌, ◌<◌, [], ◌∷◌, ◌++◌, Some, MatchOption};
 ghost use Rattle.std.specs.Option.{option_to_list};
 ghost use Rattle.ring.specs.Rings.{order, count, fresh, oldest, following, taken, freed, InTurn};

@@ -1,4 +1,6 @@
 //! The program `scenario`: reads scenarios from the files that its arguments name, or from standard input, and plays each.
+#![tactic(auto)]
+
 use anyhow::anyhow;
 use notices::Notices;
 use pile::Pile;

@@ -1,4 +1,5 @@
 //! The scenario language: its text read into typed commands, and answers written as text.
+#![tactic(auto)]
 
 pub mod command;
 pub mod fault;

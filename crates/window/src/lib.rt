@@ -1,4 +1,6 @@
 //! Sequence numbers on words of 32 bits: the word that a poll asks with, a word turned within its range, and the way to the first set bit.
+#![tactic(auto)]
+
 ghost use Rattle.window.specs.Wrap.{NumbersCount, PollsAim, VectorsTell};
 
 pub mod word;
