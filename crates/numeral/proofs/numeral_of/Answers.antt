@@ -8,19 +8,19 @@ use Rattle.numeral.proofs.numeral_of.Goals as goal
 
 pub returns-then-digit-base : goal.returns-then-digit-base
 returns-then-digit-base c =
-    no_digit c.args.base c.args.digits.now c.loop-byte.byte-index c.loop-byte.value c.loop-byte-test.true (omega (arith, c.if-digit-base.true, c.from-digit.ensures, c.digit-of.ensures)) c.loop-byte.invariant
+    no_digit c.args.base c.args.digits.now c.loop-byte.byte-index c.loop-byte.value c.loop-byte-test.true (omega (arith, c.if-digit-base.true, c.from-digit.ensures, c.digit_of.ensures)) c.loop-byte.invariant
 
-pub returns-in-default : goal.returns-in-default
-returns-in-default c =
-    too_large c.args.base c.args.digits.now c.loop-byte.byte-index c.loop-byte.value c.requires c.loop-byte-test.true (omega (arith, c.in-default.ensures, cases_lt (c.loop-byte.value * c.args.base) (2 ^ 64))) c.loop-byte.invariant
+pub returns-in_default : goal.returns-in_default
+returns-in_default c =
+    too_large c.args.base c.args.digits.now c.loop-byte.byte-index c.loop-byte.value c.requires c.loop-byte-test.true (omega (arith, c.in_default.ensures, cases_lt (c.loop-byte.value * c.args.base) (2 ^ 64))) c.loop-byte.invariant
 
-pub returns-in-default-checked-add : goal.returns-in-default-checked-add
-returns-in-default-checked-add c =
-    too_large c.args.base c.args.digits.now c.loop-byte.byte-index c.loop-byte.value c.requires c.loop-byte-test.true (omega (arith, c.in-default-checked-add.ensures, c.in-Some.ensures.1, c.from-digit.ensures, c.digit-of.ensures, cases_lt (c.in-Some.shifted + c.from-digit.result) (2 ^ 64))) c.loop-byte.invariant
+pub returns-in_default-checked_add : goal.returns-in_default-checked_add
+returns-in_default-checked_add c =
+    too_large c.args.base c.args.digits.now c.loop-byte.byte-index c.loop-byte.value c.requires c.loop-byte-test.true (omega (arith, c.in_default-checked_add.ensures, c.in-Some.ensures.1, c.from-digit.ensures, c.digit_of.ensures, cases_lt (c.in-Some.shifted + c.from-digit.result) (2 ^ 64))) c.loop-byte.invariant
 
 pub loop-byte-preserved : goal.loop-byte-preserved
 loop-byte-preserved c =
-    read_digit c.args.base c.args.digits.now c.loop-byte.byte-index c.loop-byte.value c.in-Some-checked-add.more c.loop-byte-test.true (omega (arith, c.if-digit-base.false, c.from-digit.ensures, c.digit-of.ensures)) (omega (arith, c.in-Some-checked-add.ensures.1, c.in-Some.ensures.1, c.from-digit.ensures, c.digit-of.ensures)) (omega (arith, c.in-Some-checked-add.ensures)) c.loop-byte.invariant
+    read_digit c.args.base c.args.digits.now c.loop-byte.byte-index c.loop-byte.value c.in-Some-checked_add.more c.loop-byte-test.true (omega (arith, c.if-digit-base.false, c.from-digit.ensures, c.digit_of.ensures)) (omega (arith, c.in-Some-checked_add.ensures.1, c.in-Some.ensures.1, c.from-digit.ensures, c.digit_of.ensures)) (omega (arith, c.in-Some-checked_add.ensures)) c.loop-byte.invariant
 
 pub returns : goal.returns
 returns c =

@@ -12,11 +12,11 @@ returns-then-offset-size c =
     let n = c.min-count.result in
     let e = gathered_cut m from n (length xs) (omega arith) (omega arith) (λ a. omega arith) in
     let k : (from + n) - from ≡ n = omega arith in
-    let u : c.copy-from-slice.new.self ≡ take n (drop from m) = c.copy-from-slice.ensures.after ∙ ap (λ j. take j (drop from m)) k in
-    let a : length c.copy-from-slice.new.self ≡ n = omega arith in
+    let u : c.copy_from_slice.new.self ≡ take n (drop from m) = c.copy_from_slice.ensures.after ∙ ap (λ j. take j (drop from m)) k in
+    let a : length c.copy_from_slice.new.self ≡ n = omega arith in
     let l : length c.fill.new.self ≡ length xs - n = omega arith in
     let f : c.fill.new.self ≡ replicate (length xs - n) 0 = c.fill.ensures.after (λ y h. h) ∙ ap (λ j. replicate j 0) (sym c.fill.auto.self ∙ l) in
-    two_parts c.copy-from-slice.new.self c.fill.new.self xs n (length xs) a refl (omega arith)
+    two_parts c.copy_from_slice.new.self c.fill.new.self xs n (length xs) a refl (omega arith)
     ∙ simp (u, f) e
 
 pub returns-else-page-size : goal.returns-else-page-size

@@ -13,7 +13,7 @@ returns-then-offset-size c =
     let from = c.args.page * 4096 + c.args.offset in
     let n = c.min-count.result in
     let l : length (take n xs) ≡ n = length-take-le n xs (omega arith) in
-    put_mid_sets _ _ _ _ (take n xs) (c.copy-from-slice.ensures.after ∙ simp sub-zero) (omega arith) (omega arith)
+    put_mid_sets _ _ _ _ (take n xs) (c.copy_from_slice.ensures.after ∙ simp sub-zero) (omega arith) (omega arith)
     ∙ sets_cut m from n xs (λ a. omega arith)
 
 pub returns-else-page-size : goal.returns-else-page-size

@@ -11,5 +11,5 @@ returns-then-first-size c = sym (entry_outside c.args.memory.now c.args.list c.a
 
 pub returns : goal.returns
 returns c =
-    ap (λ (w : ℕ). (w / 4096, w % 4096)) c.word-at-word.ensures
+    ap (λ (w : ℕ). (w / 4096, w % 4096)) c.word_at-word.ensures
     ∙ sym (entry_inside c.args.memory.now c.args.list c.args.k (omega arith) (omega arith))

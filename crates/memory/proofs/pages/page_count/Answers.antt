@@ -3,13 +3,13 @@ use Rattle.std.proofs.Common.{arith, rules}
 use Rattle.memory.proofs.Entries.{offset_below}
 use Rattle.memory.proofs.pages.page_count.Goals as goal
 
-pub overflow-add-result : goal.overflow-add-result
-overflow-add-result c = let h = offset_below c.args.memory.now c.args.buffer in omega (arith, c.offset-of.ensures)
+pub overflow_add-result : goal.overflow_add-result
+overflow_add-result c = let h = offset_below c.args.memory.now c.args.buffer in omega (arith, c.offset_of.ensures)
 
-pub overflow-add-result-2 : goal.overflow-add-result-2
-overflow-add-result-2 c = let h = offset_below c.args.memory.now c.args.buffer in omega (arith, c.offset-of.ensures)
+pub overflow_add-result-2 : goal.overflow_add-result-2
+overflow_add-result-2 c = let h = offset_below c.args.memory.now c.args.buffer in omega (arith, c.offset_of.ensures)
 
 pub returns : goal.returns
 returns c =
     let h = offset_below c.args.memory.now c.args.buffer in
-    record { counted = search rules; small = omega (arith, c.offset-of.ensures) }
+    record { counted = search rules; small = omega (arith, c.offset_of.ensures) }

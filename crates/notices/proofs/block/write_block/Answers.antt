@@ -9,4 +9,4 @@ pub returns-then-at-buffer : goal.returns-then-at-buffer
 returns-then-at-buffer c =
     let xs = c.args.buffer.now in
     let a = c.args.block * 64 in
-    pasted a xs _ _ c.copy-from-slice.ensures.after ∙ sym (cond-true (inside xs c.args.block) _ _ (le-leb (a + 64) (length xs) c.if-at-buffer.true))
+    pasted a xs _ _ c.copy_from_slice.ensures.after ∙ sym (cond-true (inside xs c.args.block) _ _ (le-leb (a + 64) (length xs) c.if-at-buffer.true))

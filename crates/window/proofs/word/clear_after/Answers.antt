@@ -5,13 +5,13 @@ use Rattle.window.proofs.word.clear_after.Goals as goal
 
 pub returns-then-gone-count : goal.returns-then-gone-count
 returns-then-gone-count c =
-    let e = shown_none c.args.range c.args.count c.min.result c.min-count.result c.args.first c.args.word c.clear-before-gone.result
-    c.min.ensures c.min-count.ensures c.clear-before-gone.ensures.is c.if-gone-count.true in
+    let e = shown_none c.args.range c.args.count c.min.result c.min-count.result c.args.first c.args.word c.clear_before-gone.result
+    c.min.ensures c.min-count.ensures c.clear_before-gone.ensures.is c.if-gone-count.true in
     record { is = e; bits = shows_by c.args.range c.args.count c.args.first c.args.word 0 e }
 
 pub returns : goal.returns
 returns c =
-    let e = shown_is c.args.range c.args.count c.min.result c.min-count.result c.args.first c.args.word c.clear-before-gone.result
-    c.turn.result c.low-bits.result
-    c.min.ensures c.min-count.ensures c.clear-before-gone.ensures.is c.turn.ensures.is c.low-bits.ensures in
-    record { is = e; bits = shows_by c.args.range c.args.count c.args.first c.args.word c.low-bits.result e }
+    let e = shown_is c.args.range c.args.count c.min.result c.min-count.result c.args.first c.args.word c.clear_before-gone.result
+    c.turn.result c.low_bits.result
+    c.min.ensures c.min-count.ensures c.clear_before-gone.ensures.is c.turn.ensures.is c.low_bits.ensures in
+    record { is = e; bits = shows_by c.args.range c.args.count c.args.first c.args.word c.low_bits.result e }

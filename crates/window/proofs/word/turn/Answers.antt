@@ -11,10 +11,10 @@ returns-then-range-eq0 c =
 
 pub returns-then-first-eq0 : goal.returns-then-first-eq0
 returns-then-first-eq0 c =
-    let e = turn_first c.args.range c.min-range.result c.args.first c.args.word c.low-bits-word.result c.min-range.ensures c.if-first-eq0.true c.low-bits-word.ensures in
-    record { is = e; bits = turn_is (held c.args.range) c.args.first c.args.word c.low-bits-word.result e }
+    let e = turn_first c.args.range c.min-range.result c.args.first c.args.word c.low_bits-word.result c.min-range.ensures c.if-first-eq0.true c.low_bits-word.ensures in
+    record { is = e; bits = turn_is (held c.args.range) c.args.first c.args.word c.low_bits-word.result e }
 
 pub returns : goal.returns
 returns c =
-    let e = turn_parts c.args.range c.min-range.result c.args.first c.args.word c.low-bits-word.result c.low-bits-low.result c.min-range.ensures c.if-range-eq0.false c.low-bits-word.ensures c.low-bits-low.ensures in
+    let e = turn_parts c.args.range c.min-range.result c.args.first c.args.word c.low_bits-word.result c.low_bits-low.result c.min-range.ensures c.if-range-eq0.false c.low_bits-word.ensures c.low_bits-low.ensures in
     record { is = e; bits = turn_is (held c.args.range) c.args.first c.args.word _ e }
