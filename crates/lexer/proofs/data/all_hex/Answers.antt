@@ -5,13 +5,13 @@ use Rattle.numeral.specs.Numbers.{all_digits}
 use Rattle.numeral.proofs.Values.{digit_next, digit_not}
 use Rattle.lexer.proofs.data.all_hex.Goals as goal
 
-pub returns-then-digit-of-ge16 : goal.returns-then-digit-of-ge16
-returns-then-digit-of-ge16 c =
-    digit_not 16 c.args.digits.now c.loop-byte.byte-index c.loop-byte-test.true (omega (arith, c.if-digit-of-ge16.true, c.digit-of.ensures)) c.loop-byte.invariant
+pub returns-then-digit_of-ge16 : goal.returns-then-digit_of-ge16
+returns-then-digit_of-ge16 c =
+    digit_not 16 c.args.digits.now c.loop-byte.byte-index c.loop-byte-test.true (omega (arith, c.if-digit_of-ge16.true, c.digit_of.ensures)) c.loop-byte.invariant
 
 pub loop-byte-preserved : goal.loop-byte-preserved
 loop-byte-preserved c =
-    digit_next 16 c.args.digits.now c.loop-byte.byte-index c.loop-byte-test.true (omega (arith, c.if-digit-of-ge16.false, c.digit-of.ensures)) c.loop-byte.invariant
+    digit_next 16 c.args.digits.now c.loop-byte.byte-index c.loop-byte-test.true (omega (arith, c.if-digit_of-ge16.false, c.digit_of.ensures)) c.loop-byte.invariant
 
 pub returns : goal.returns
 returns c =

@@ -10,4 +10,4 @@ pub loop-k-preserved : goal.loop-k-preserved
 loop-k-preserved c =
     let f = generated c.args.start in
     let k = c.loop-k.k in
-    pushed (c.generated-byte.result ∷ []) c.loop-k.invariant c.in-ok-push.was c.push.ensures.items ∙ ap (λ b. map f (range_with_len 0 k) ++ (b ∷ [])) c.generated-byte.ensures ∙ sym (map-range_with_len_more f 0 k k (omega arith))
+    pushed (c.generated_byte.result ∷ []) c.loop-k.invariant c.in_ok-push.was c.push.ensures.items ∙ ap (λ b. map f (range_with_len 0 k) ++ (b ∷ [])) c.generated_byte.ensures ∙ sym (map-range_with_len_more f 0 k k (omega arith))

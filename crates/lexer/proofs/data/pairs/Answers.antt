@@ -17,4 +17,4 @@ pub loop-i-preserved : goal.loop-i-preserved
 loop-i-preserved c =
     let f = pair_at c.args.digits.now in
     let i = c.loop-i.i in
-    pushed (c.pair.result ∷ []) c.loop-i.invariant c.in-ok-push.was c.push.ensures.items ∙ ap (λ b. map f (range_with_len 0 i) ++ (b ∷ [])) c.pair.ensures ∙ sym (map-range_with_len_more f 0 i i (omega arith))
+    pushed (c.pair.result ∷ []) c.loop-i.invariant c.in_ok-push.was c.push.ensures.items ∙ ap (λ b. map f (range_with_len 0 i) ++ (b ∷ [])) c.pair.ensures ∙ sym (map-range_with_len_more f 0 i i (omega arith))

@@ -13,14 +13,14 @@ later : (s : Stop) (w : List ℕ) (i : ℕ) → i < length w → stops s (get_or
 later s w i h e =
     ap (reach s) (drop-cons w i 0 h) ∙ ap (λ b. cond b 0 (1 + reach s (drop (suc i) w))) e ∙ ap (λ k. 1 + reach s (drop k w)) (sym (add-one i))
 
-pub returns-then-stops-at : goal.returns-then-stops-at
-returns-then-stops-at c =
-    let z = here c.args.stop c.args.text.now c.loop-i.i c.loop-i-test.true (sym c.stops-at.ensures ∙ c.if-stops-at.true) in
+pub returns-then-stops_at : goal.returns-then-stops_at
+returns-then-stops_at c =
+    let z = here c.args.stop c.args.text.now c.loop-i.i c.loop-i-test.true (sym c.stops_at.ensures ∙ c.if-stops_at.true) in
     record { value = omega (arith, c.loop-i.invariant); bound = omega arith }
 
 pub loop-i-preserved : goal.loop-i-preserved
 loop-i-preserved c =
-    let z = later c.args.stop c.args.text.now c.loop-i.i c.loop-i-test.true (sym c.stops-at.ensures ∙ c.if-stops-at.false) in
+    let z = later c.args.stop c.args.text.now c.loop-i.i c.loop-i-test.true (sym c.stops_at.ensures ∙ c.if-stops_at.false) in
     omega (arith, c.loop-i.invariant)
 
 pub returns : goal.returns

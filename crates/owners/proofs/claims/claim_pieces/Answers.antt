@@ -7,15 +7,15 @@ use Rattle.owners.proofs.claims.claim_pieces.Goals as goal
 pub returns-in-Err : goal.returns-in-Err
 returns-in-Err c =
     let t = c.args.table.now in
-    let e = claim_fails c.args.memory.now c.args.set c.args.first c.args.pieces.now t c.loop-i.table c.claim-buffer-outcome.new.table c.unclaim-pieces.new.table
-    c.loop-i.i c.claim-buffer-outcome.result c.in-Err.refusal c.loop-i-test.true c.claim-buffer-outcome.ensures.told c.claim-buffer-outcome.ensures.marked c.in-Err.is
-    c.loop-i.invariant.0 c.loop-i.invariant.1 c.unclaim-pieces.ensures in
+    let e = claim_fails c.args.memory.now c.args.set c.args.first c.args.pieces.now t c.loop-i.table c.claim_buffer-outcome.new.table c.unclaim_pieces.new.table
+    c.loop-i.i c.claim_buffer-outcome.result c.in-Err.refusal c.loop-i-test.true c.claim_buffer-outcome.ensures.told c.claim_buffer-outcome.ensures.marked c.in-Err.is
+    c.loop-i.invariant.0 c.loop-i.invariant.1 c.unclaim_pieces.ensures in
     record { told = sym (ap answer e.0); marked = e.1 ∙ sym (ap (after t) e.0) }
 
 pub loop-i-preserved : goal.loop-i-preserved
 loop-i-preserved c =
-    claim_goes c.args.memory.now c.args.set c.args.first c.args.pieces.now c.args.table.now c.loop-i.table c.claim-buffer-outcome.new.table
-    c.loop-i.i c.claim-buffer-outcome.result c.in-default.field-0 c.loop-i-test.true c.claim-buffer-outcome.ensures.told c.claim-buffer-outcome.ensures.marked c.in-default.is
+    claim_goes c.args.memory.now c.args.set c.args.first c.args.pieces.now c.args.table.now c.loop-i.table c.claim_buffer-outcome.new.table
+    c.loop-i.i c.claim_buffer-outcome.result c.in_default.field-0 c.loop-i-test.true c.claim_buffer-outcome.ensures.told c.claim_buffer-outcome.ensures.marked c.in_default.is
     c.loop-i.invariant.0 c.loop-i.invariant.1
 
 pub returns : goal.returns

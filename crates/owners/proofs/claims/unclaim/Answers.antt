@@ -5,7 +5,7 @@ use Rattle.owners.proofs.claims.unclaim.Goals as goal
 
 pub loop-j-preserved : goal.loop-j-preserved
 loop-j-preserved c =
-    unclaim_step c.args.memory.now c.args.buffer c.loop-j.table c.mark.new.table c.loop-j.j c.named-page.result (omega arith) c.named-page.ensures c.mark.ensures
+    unclaim_step c.args.memory.now c.args.buffer c.loop-j.table c.mark.new.table c.loop-j.j c.named_page.result (omega arith) c.named_page.ensures c.mark.ensures
     ∙ c.loop-j.invariant
 
 pub returns : goal.returns

@@ -5,7 +5,7 @@ use Rattle.owners.proofs.claims.unclaim_pieces.Goals as goal
 
 pub loop-i-preserved : goal.loop-i-preserved
 loop-i-preserved c =
-    unclaim_all_step c.args.memory.now c.args.pieces.now c.loop-i.table c.unclaim.new.table c.loop-i.i c.name-count-names.result (omega arith) c.name-count-names.ensures.counted c.unclaim.ensures
+    unclaim_all_step c.args.memory.now c.args.pieces.now c.loop-i.table c.unclaim.new.table c.loop-i.i c.name_count-names.result (omega arith) c.name_count-names.ensures.counted c.unclaim.ensures
     ∙ c.loop-i.invariant
 
 pub returns : goal.returns

@@ -5,6 +5,6 @@ use Rattle.owners.proofs.releases.release_run.Goals as goal
 
 pub loop-k-preserved : goal.loop-k-preserved
 loop-k-preserved c =
-    run_step c.args.owner c.loop-k.table c.mark.new.table c.args.page c.loop-k.k c.args.count c.owner-at-held.result c.kept.result
-    c.loop-k-test.true c.owner-at-held.ensures c.kept.ensures c.mark.ensures
+    run_step c.args.owner c.loop-k.table c.mark.new.table c.args.page c.loop-k.k c.args.count c.owner_at-held.result c.kept.result
+    c.loop-k-test.true c.owner_at-held.ensures c.kept.ensures c.mark.ensures
     ∙ c.loop-k.invariant

@@ -10,6 +10,6 @@ returns c =
     let t : leb (length c.args.bytes.now) 3584 ≡ true = le-leb _ _ c.if-n-gt-LONGEST.false in
     record {
       answer = sym t;
-      holds = take_at c.copy-from-slice.new.self _ (length c.args.bytes.now) (ap length c.copy-from-slice.ensures.after) ∙ c.copy-from-slice.ensures.after
+      holds = take_at c.copy_from_slice.new.self _ (length c.args.bytes.now) (ap length c.copy_from_slice.ensures.after) ∙ c.copy_from_slice.ensures.after
           ∙ sym (cond-true (leb (length c.args.bytes.now) 3584) c.args.bytes.now (held c.args.self.now) t);
     }
