@@ -10,4 +10,4 @@ returns c =
     let w = c.args.window in
     subst (λ f. Vector w f (λ j. None) c.asking.result) c.taken.ensures
     (whole_vector w c.requires c.taken.result c.asking.result
-    (subst (λ v. Asks (held w.range) c.taken.result v c.asking.result) c.low-bits.ensures c.asking.ensures.bits))
+    (subst (λ v. Asks (held w.range) c.taken.result v c.asking.result) c.low_bits.ensures c.asking.ensures.bits))

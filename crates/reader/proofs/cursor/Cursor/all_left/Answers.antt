@@ -23,7 +23,7 @@ returns c =
     let ls = c.args.lengths.now in
     let s = c.args.self in
     let e = counted_less s.spent ls s.message (length bs - s.here) c.min-many.result (omega (arith, c.if-self-lengths.false))
-    (c.min-many.ensures ∙ ap (λ v. min v (length bs - s.here)) c.saturating-sub.ensures) in
+    (c.min-many.ensures ∙ ap (λ v. min v (length bs - s.here)) c.saturating_sub.ensures) in
     record {
       inside = omega (arith, c.loop-i.invariant.1, c.requires.inside);
       bytes = counted_all bs ls s c.loop-i.i c.loop-i.many c.requires.inside c.loop-i-test.false (c.loop-i.invariant.0 ∙ e.0) c.loop-i.invariant.1;
