@@ -1,7 +1,7 @@
 -- Each call of a sink has one answer and one outcome.
 use Rattle.std.proofs.Common.{◌≡◌, ℕ, zero, suc, ◌+◌, ◌%◌, ◌^◌, ◌<◌, ◌≤◌, Bool, true, false, cond, ltb, ◌⊎◌, List, [], length, get_or, Some, None, vec_items, Option, sym, refl, ap, ◌∙◌, subst, inl, inr, arith}
 use Rattle.std.proofs.lemmas.Bool.{cases_order, both_ways}
-use Rattle.link.specs.declared.window.Window.{Window}
+use Rattle.link.specs.declared.term.Window.{Window}
 use Rattle.link.specs.declared.answers.PollAnswer.{PollAnswer}
 use Rattle.link.specs.declared.answers.PollAnswer.TheVariants.{Data, NotReady, Stall, Silence}
 use Rattle.link.specs.declared.answers.Collected.{Collected}

@@ -2,7 +2,7 @@
 use Rattle.std.proofs.Common.{◌≡◌, ℕ, suc, ◌+◌, ◌-◌, ◌*◌, ◌/◌, ◌%◌, ◌^◌, ◌<◌, ◌≤◌, true, false, ◌⊎◌, List, is_some, Some, None, Option, sym, refl, ap, ◌∙◌, subst, inl, inr, add-zero, mod-lt, pow-suc, add-one, arith, MatchOption}
 use Rattle.std.proofs.lemmas.Nat.{one_shl}
 use Rattle.std.proofs.lemmas.Bool.{cases_lt, cases_order}
-use Rattle.link.specs.declared.window.Window.{Window}
+use Rattle.link.specs.declared.term.Window.{Window}
 use Rattle.window.specs.Numbers.{bit}
 use Rattle.window.proofs.Bits.{bit_low, bit_high, bit_past}
 use Rattle.link.specs.Meaning.{Bit, Meant, Vector}

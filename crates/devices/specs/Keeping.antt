@@ -5,7 +5,7 @@ use Rattle.std.proofs.Math.Path.{fun_ext}
 use Rattle.std.specs.Option.{option_map}
 use Rattle.std.proofs.lemmas.List.{get_or-replicate, get_or-set_same, get_or-set_other, take_all, take-take, take_at, length_push, get_or_push, get_or-take}
 use Rattle.std.proofs.lemmas.Bool.{cases_lt, cases_eq, cond-true, cond-false, lt-ltb, le-ltb, eq-eqb, ne_eqb, cases_Bool, eqb-true, or_parts, ltb-false}
-use Rattle.link.specs.declared.window.Window.{Window}
+use Rattle.link.specs.declared.term.Window.{Window}
 use Rattle.link.specs.Bounds.{sound}
 use Rattle.link.specs.Meaning.{Follows, Kept, Meant, Out, beside}
 use Rattle.devices.specs.declared.held.Held.{Held}

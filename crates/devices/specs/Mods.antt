@@ -4,7 +4,7 @@ use Rattle.std.proofs.Common.{sym, ◌∙◌, inl, inr, mod-lt, arith}
 use Rattle.std.proofs.lemmas.Bool.{cases_lt}
 use Rattle.window.proofs.Mods.{mod_same}
 use Rattle.window.proofs.Turning.{back}
-use Rattle.link.specs.declared.window.Window.{Window}
+use Rattle.link.specs.declared.term.Window.{Window}
 use Rattle.link.specs.Bounds.{sound}
 use Rattle.link.specs.Meaning.{Meant}
 use Rattle.link.proofs.Sound.{range_twice, range_least}

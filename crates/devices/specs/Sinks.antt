@@ -1,6 +1,6 @@
 -- A sink by its fields.
 use Rattle.std.specs.Prelude.{ℕ, Bool, List, length, vec_items, Option}
-use Rattle.link.specs.declared.window.Window.{Window}
+use Rattle.link.specs.declared.term.Window.{Window}
 use Rattle.devices.specs.declared.held.Held.{Held}
 use Rattle.devices.specs.declared.since.Since.{Since}
 use Rattle.devices.specs.declared.sink.Sink.{Sink}

@@ -1,6 +1,6 @@
 -- A Restart keeps the bounds of a term: what is left of a text is no larger, and its packets are few at every packet size.
 use Rattle.std.proofs.Common.{◌≡◌, ℕ, zero, suc, ◌+◌, ◌*◌, ◌^◌, ◌<◌, ◌≤◌, Bool, true, false, cond, ltb, List, [], ◌∷◌, length, drop, Some, None, Option, refl, arith, length-drop}
-use Rattle.link.specs.declared.window.Window.{Window}
+use Rattle.link.specs.declared.term.Window.{Window}
 use Rattle.link.specs.Text.{after, rest}
 use Rattle.link.specs.Meaning.{In, Pipe, absent, inward, outward, unacknowledged, begun}
 use Rattle.link.specs.Terms.{bytes_of, Bounded, InBounds, RestartBounded}

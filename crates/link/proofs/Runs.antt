@@ -1,7 +1,7 @@
 -- Along any calls of a link the directions stay, and so does the numbering without gaps.
 use Rattle.std.proofs.Common.{◌≡◌, ℕ, zero, suc, List, Option, sym, refl, ap, ◌∙◌, subst, inl, inr}
 use Rattle.std.proofs.lemmas.Bool.{cases_eq}
-use Rattle.link.specs.declared.window.Window.{Window}
+use Rattle.link.specs.declared.term.Window.{Window}
 use Rattle.link.specs.declared.answers.PollAnswer.{PollAnswer}
 use Rattle.link.specs.declared.answers.Collected.{Collected}
 use Rattle.link.specs.Meaning.{Pipe, direction, Gapless, Only, Restarts, Polls, Fetches, Sends, Collects}

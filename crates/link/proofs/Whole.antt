@@ -5,7 +5,7 @@ use Rattle.std.proofs.lemmas.Bool.{cases_lt}
 use Rattle.window.specs.Numbers.{bit}
 use Rattle.window.specs.Words.{Asks, held, others}
 use Rattle.window.proofs.Bits.{bit_others, bit_past}
-use Rattle.link.specs.declared.window.Window.{Window}
+use Rattle.link.specs.declared.term.Window.{Window}
 use Rattle.link.specs.Bounds.{sound}
 use Rattle.link.specs.Meaning.{Vector, Meant, Bit}
 use Rattle.link.proofs.Sound.{burst_most, range_most, range_twice}

@@ -1,6 +1,6 @@
 -- What the clauses fix to one value: the aim of a Poll, the packet that a Send's number stands for, what keeping it leads to, the vector.
 use Rattle.std.specs.Prelude.{◌≡◌, ℕ, ◌^◌, ◌<◌, true, List, Option}
-use Rattle.link.specs.declared.window.Window.{Window}
+use Rattle.link.specs.declared.term.Window.{Window}
 use Rattle.link.specs.Bounds.{sound}
 use Rattle.link.specs.Meaning.{Out, Aim, Meant, Kept, Vector}
 

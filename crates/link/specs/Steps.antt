@@ -1,6 +1,6 @@
 -- What holds of every link along any calls: what Describe answers never changes, and pipes without gaps stay so.
 use Rattle.std.specs.Prelude.{◌≡◌, ℕ, zero, suc, List, Option}
-use Rattle.link.specs.declared.window.Window.{Window}
+use Rattle.link.specs.declared.term.Window.{Window}
 use Rattle.link.specs.declared.answers.PollAnswer.{PollAnswer}
 use Rattle.link.specs.declared.answers.Collected.{Collected}
 use Rattle.link.specs.Meaning.{Pipe, direction, Gapless}

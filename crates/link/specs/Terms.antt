@@ -1,6 +1,6 @@
 -- A term's bounds: 16,777,216 bytes, 33,554,432 packets and, inward, 16,777,216 messages.
 use Rattle.std.specs.Prelude.{◌≡◌, ℕ, ◌+◌, ◌^◌, ◌<◌, ◌≤◌, List, [], ◌∷◌, length, Some, None, Option}
-use Rattle.link.specs.declared.window.Window.{Window}
+use Rattle.link.specs.declared.term.Window.{Window}
 use Rattle.link.specs.Meaning.{In, Out, Pipe, absent, inward, outward, begun}
 use Rattle.link.specs.Text.{text_packets}
 

@@ -5,18 +5,18 @@ ghost use Rattle.std.specs.Prelude.{◌≡◌, ℕ, ◌≤◌, List, Option};
 ghost use Rattle.link.specs.Meaning.{Collects, Fetches, Only, Pipe, Polls, Restarts, Sends, absent, direction};
 ghost use Rattle.link.specs.Terms.{Bounded};
 ghost use Rattle.link.specs.Packets.{got};
-ghost use Rattle.link.specs.declared.window.Window.{Window};
+ghost use Rattle.link.specs.declared.term.Window.{Window};
 ghost use Rattle.link.specs.declared.answers.Collected.{Collected};
 ghost use Rattle.link.specs.declared.answers.PollAnswer.{PollAnswer};
 
 pub mod answers;
 pub mod laws;
 pub mod packet;
-pub mod window;
+pub mod term;
 
 pub use answers::{Collected, Direction, Fetched, PollAnswer};
 pub use packet::Packet;
-pub use window::Window;
+pub use term::Window;
 
 /// What carries packets between the engine and functions.
 ///

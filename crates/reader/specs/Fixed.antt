@@ -1,6 +1,6 @@
 -- What the reader answers and becomes is fixed by what it holds and by the call.
 use Rattle.std.specs.Prelude.{◌≡◌, ℕ, List, Option}
-use Rattle.link.specs.declared.window.Window.{Window}
+use Rattle.link.specs.declared.term.Window.{Window}
 use Rattle.link.specs.declared.answers.PollAnswer.{PollAnswer}
 use Rattle.link.specs.declared.answers.Collected.{Collected}
 use Rattle.link.specs.Meaning.{In, Gapless, inward, solo}

@@ -12,7 +12,7 @@ use Rattle.link.proofs.Sound.{sized}
 use Rattle.link.proofs.Solo.{only_zero, only_same, still_absent, bounds_one}
 use Rattle.link.specs.declared.answers.Collected.{Collected}
 use Rattle.link.specs.declared.answers.Collected.TheVariants as collected
-use Rattle.link.specs.declared.window.Window.{Window}
+use Rattle.link.specs.declared.term.Window.{Window}
 use Rattle.link.specs.declared.answers.PollAnswer.{PollAnswer}
 use Rattle.link.specs.declared.answers.PollAnswer.TheVariants.{Data, NotReady, Stall, Silence}
 use Rattle.link.proofs.Cuts.{none_left, some_left, one_left, rest_add, count_rest, none_allowed, beyond_allowed, is_allowed, packets_few}

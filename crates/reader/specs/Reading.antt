@@ -1,6 +1,6 @@
 -- The messages that a reader is given, and its place in them.
 use Rattle.std.specs.Prelude.{◌≡◌, ℕ, ◌+◌, ◌-◌, ◌<◌, ◌≤◌, min, List, [], ◌∷◌, length, take, drop, Option, slice_index}
-use Rattle.link.specs.declared.window.Window.{Window}
+use Rattle.link.specs.declared.term.Window.{Window}
 use Rattle.link.specs.Meaning.{In}
 use Rattle.link.specs.Text.{after}
 use Rattle.reader.specs.declared.cursor.Cursor.{Cursor}

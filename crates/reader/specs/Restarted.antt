@@ -1,6 +1,6 @@
 -- The numbers of a pipe's last Restart, if there was one.
 use Rattle.std.specs.Prelude.{ℕ, Bool, true, Some, None, Option}
-use Rattle.link.specs.declared.window.Window.{Window}
+use Rattle.link.specs.declared.term.Window.{Window}
 use Rattle.link.specs.Bounds.{sound}
 
 -- they are within their bounds

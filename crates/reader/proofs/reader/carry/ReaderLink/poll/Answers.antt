@@ -9,19 +9,17 @@ invariant_of-self-in-Some-seek c =
     let s = c.args.self.now in
     let w = c.in-Some.window in
     let f = c.in-Some-seek.found in
-    let x = at_both (λ bs ls. Found bs ls w.packet w.range c.args.wanted (record { at = s.at; place = s.place }) f) _ _ _ _ c.as_slice.ensures.value c.as_slice-in-Some.ensures.value c.in-Some-seek.ensures in (
-      stands_next (vec_items s.bytes) (vec_items s.lengths) s.window s.start s.at s.place w c.in-Some.is s.fit s.stands s.reached c.args.pipe c.args.wanted f x,
-      (
-        x.inside,
-        (
-          x.within,
-          (
-            reached_next (vec_items s.bytes) (vec_items s.lengths) s.window s.start s.at s.place w c.in-Some.is s.fit s.stands s.reached c.args.pipe c.args.wanted f x,
-            (x.small, (s.few, (s.short, (s.fit, tt)))),
-          ),
-        ),
-      ),
-    )
+    let x = at_both (λ bs ls. Found bs ls w.packet w.range c.args.wanted (record { at = s.at; place = s.place }) f) _ _ _ _ c.as_slice.ensures.value c.as_slice-in-Some.ensures.value c.in-Some-seek.ensures in
+    record {
+      stands = stands_next (vec_items s.bytes) (vec_items s.lengths) s.window s.start s.at s.place w c.in-Some.is s.fit s.stands s.reached c.args.pipe c.args.wanted f x;
+      inside = x.inside;
+      within = x.within;
+      reached = reached_next (vec_items s.bytes) (vec_items s.lengths) s.window s.start s.at s.place w c.in-Some.is s.fit s.stands s.reached c.args.pipe c.args.wanted f x;
+      small = x.small;
+      few = s.few;
+      short = s.short;
+      fit = s.fit;
+    }
 
 pub returns-in-None-seek : goal.returns-in-None-seek
 returns-in-None-seek c =
