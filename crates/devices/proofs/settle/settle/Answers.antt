@@ -65,5 +65,5 @@ returns c =
     let i = c.loop-many.invariant in
     let room = vec_items c.args.ahead.now.room in
     let slots = c.args.ahead.now.slots in
-    let x : lookup room slots (length (cut (vec_items t.bytes) (vec_items t.lengths))) ≡ None = subst (λ v. lookup room slots v ≡ None) (i.5 ∙ counts t) (missing_at room slots j (sym c.in-default.ensures)) in
-    record { taken = going_all _ _ _ i.0 x; spaced = i.1; past = λ k n q l. past_free slots (vec_len t.lengths) (subst (λ v. length_of slots v ≡ None) i.5 (sym c.in-default.ensures)) k n q l; grown = i.2; space = i.3; most = i.4 }
+    let x : lookup room slots (length (cut (vec_items t.bytes) (vec_items t.lengths))) ≡ None = subst (λ v. lookup room slots v ≡ None) (i.5 ∙ counts t) (missing_at room slots j (sym c.in_default.ensures)) in
+    record { taken = going_all _ _ _ i.0 x; spaced = i.1; past = λ k n q l. past_free slots (vec_len t.lengths) (subst (λ v. length_of slots v ≡ None) i.5 (sym c.in_default.ensures)) k n q l; grown = i.2; space = i.3; most = i.4 }

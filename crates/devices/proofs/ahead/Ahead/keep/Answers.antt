@@ -10,8 +10,8 @@ use Rattle.devices.proofs.ahead.Ahead.keep.Goals as goal
 refilled_is : (n : ℕ) (xs old : List ℕ) → length xs ≡ n → take n (xs ++ drop (length xs) old) ≡ xs
 refilled_is n xs old e = take_at xs (drop (length xs) old) n e
 
-pub invariant-of-self : goal.invariant-of-self
-invariant-of-self c = (simp length-set c.args.self.now.slotted, tt)
+pub invariant_of-self : goal.invariant_of-self
+invariant_of-self c = record { slotted = simp length-set c.args.self.now.slotted }
 
 pub returns : goal.returns
 returns c =
@@ -19,10 +19,10 @@ returns c =
     let b = c.args.bytes.now in
     let j = c.args.j in
     let after = c.write.new.room in
-    let long : length after ≡ vec_len s.room = omega (arith, c.write.auto.room, c.as-mut-slice.ensures.len) in
+    let long : length after ≡ vec_len s.room = omega (arith, c.write.auto.room, c.as_mut_slice.ensures.len) in
     let whole : take (vec_len s.room) (after ++ drop (length after) s.room.items) ≡ after = refilled_is (vec_len s.room) after s.room.items long in
     let is : take (vec_len s.room) (after ++ drop (length after) s.room.items) ≡ put_mid (j % 16 * 3584) (length b) (vec_items s.room) b =
-    whole ∙ c.write.ensures ∙ ap (λ v. put_mid (j % 16 * 3584) (length b) v b) c.as-mut-slice.ensures.value in
+    whole ∙ c.write.ensures ∙ ap (λ v. put_mid (j % 16 * 3584) (length b) v b) c.as_mut_slice.ensures.value in
     record {
       slots = refl;
       wide = s.slotted;

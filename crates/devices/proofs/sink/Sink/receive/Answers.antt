@@ -49,7 +49,7 @@ append-requires c =
     let j = c.in-Some.j in
     let many = length c.args.bytes.now in
     let f = vec_len s.store.lengths in
-    let x : lacks s.store.space s.store.most w.packet (vec_len s.store.bytes) f j many ≡ false = sym c.lacks-space.ensures ∙ c.if-lacks-space.false in
+    let x : lacks s.store.space s.store.most w.packet (vec_len s.store.bytes) f j many ≡ false = sym c.lacks_space.ensures ∙ c.if-lacks_space.false in
     let same : j ≡ f = c.if-j-count.true ∙ c.count.ensures in
     let zero : (j - f) * w.packet ≡ 0 = ap (λ v. v * w.packet) (let e : j - f ≡ 0 = omega arith in e) ∙ zero-mul w.packet in
     record {
@@ -73,8 +73,8 @@ settle-requires c =
       spaced = spaced_more s.ahead.slots w.packet (vec_len s.store.bytes) (vec_len s.store.lengths) s.store.space (length c.args.bytes.now) _ _ _ (spaced_at s w.packet e) c.if-bytes-window.false a.bytes a.lengths a.space;
     }
 
-pub invariant-of-self-then-j-count : goal.invariant-of-self-then-j-count
-invariant-of-self-then-j-count c =
+pub invariant_of-self-then-j-count : goal.invariant_of-self-then-j-count
+invariant_of-self-then-j-count c =
     let s = c.args.self.now in
     let w = c.args.window in
     let e : size_of s.window ≡ w.packet = ap size_of c.requires in
@@ -85,12 +85,21 @@ invariant-of-self-then-j-count c =
     let counted : (k n : ℕ) → length_of s.ahead.slots k ≡ Some n → k < t.most = λ k n q. omega (arith, s.counted k n q, a.most, b.most) in
     let spaced : (k n : ℕ) → length_of s.ahead.slots k ≡ Some n → vec_len t.lengths ≤ k → vec_len t.bytes + (k - vec_len t.lengths) * size_of s.window + n ≤ t.space =
     λ k n q l. subst (λ v. vec_len t.bytes + (k - vec_len t.lengths) * v + n ≤ t.space) (sym e) (b.spaced k n q l) in
-    (s.fit, (s.ordered, (s.roomy, (near, (s.fits, (counted, (spaced, (b.past, tt))))))))
+    record {
+      fit = s.fit;
+      ordered = s.ordered;
+      roomy = s.roomy;
+      near = near;
+      fits = s.fits;
+      counted = counted;
+      spaced = spaced;
+      past = b.past;
+    }
 
 -- a later packet: it is kept ahead
 
-pub invariant-of-self-then-self : goal.invariant-of-self-then-self
-invariant-of-self-then-self c =
+pub invariant_of-self-then-self : goal.invariant_of-self-then-self
+invariant_of-self-then-self c =
     let s = c.args.self.now in
     let w = c.args.window in
     let e : size_of s.window ≡ w.packet = ap size_of c.requires in
@@ -102,7 +111,7 @@ invariant-of-self-then-self c =
     let q : burst_of s.window ≡ w.burst = ap burst_of c.requires in
     let close : j < f + burst_of s.window = omega (arith, m.within, q) in
     let later : f < j = omega (arith, m.from, c.if-j-count.false, c.count.ensures) in
-    let x : lacks s.store.space s.store.most w.packet (vec_len s.store.bytes) f j many ≡ false = sym c.lacks-space.ensures ∙ c.if-lacks-space.false in
+    let x : lacks s.store.space s.store.most w.packet (vec_len s.store.bytes) f j many ≡ false = sym c.lacks_space.ensures ∙ c.if-lacks_space.false in
     let near = after_near s.ahead.slots _ j many wide c.keep.ensures.slots f (burst_of s.window) close s.near in
     let fits = after_fits s.ahead.slots _ j many wide c.keep.ensures.slots w.packet c.if-bytes-window.false (fits_at s w.packet e) in
     let counted = after_counted s.ahead.slots _ j many wide c.keep.ensures.slots w.packet _ _ s.store.space s.store.most x s.counted in
@@ -111,7 +120,16 @@ invariant-of-self-then-self c =
     let space : (k n : ℕ) → length_of c.keep.new.self.slots k ≡ Some n → f ≤ k → vec_len s.store.bytes + (k - f) * size_of s.window + n ≤ s.store.space =
     λ k n h l. subst (λ v. vec_len s.store.bytes + (k - f) * v + n ≤ s.store.space) (sym e) (spaced k n h l) in
     let past = after_past s.ahead.slots _ j many wide c.keep.ensures.slots f later s.past in
-    (s.fit, ((λ k n h. c.if-self.true), (room, (near, ((λ k n h. omega (arith, fits k n h, e)), (counted, (space, (past, tt))))))))
+    record {
+      fit = s.fit;
+      ordered = λ k n h. c.if-self.true;
+      roomy = room;
+      near = near;
+      fits = λ k n h. omega (arith, fits k n h, e);
+      counted = counted;
+      spaced = space;
+      past = past;
+    }
 
 pub returns-in-None : goal.returns-in-None
 returns-in-None c =
@@ -119,13 +137,13 @@ returns-in-None c =
     step_nowhere c.args.window (at s) c.args.number c.args.bytes.now (length (vec_items s.store.lengths)) _ (counts s.store) refl
     (subst (λ f. (j : ℕ) → Meant c.args.window f (early_from f (vec_items s.ahead.room) s.ahead.slots) c.args.number j → ⊥) s.store.lengths.ok.0 c.in-None.ensures)
 
-pub returns-then-lacks-space : goal.returns-then-lacks-space
-returns-then-lacks-space c =
+pub returns-then-lacks_space : goal.returns-then-lacks_space
+returns-then-lacks_space c =
     let s = c.args.self.now in
     let m = subst (λ f. Meant c.args.window f (early_from f (vec_items s.ahead.room) s.ahead.slots) c.args.number c.in-Some.j) s.store.lengths.ok.0 c.in-Some.ensures in
-    let r = c.lacks-space.ensures ∙ ap (λ f. lacks s.store.space s.store.most c.args.window.packet (vec_len s.store.bytes) f c.in-Some.j (length c.args.bytes.now)) s.store.lengths.ok.0 in
-    let x = step_lacking c.args.window (at s) c.args.number c.args.bytes.now _ _ (counts s.store) (weighs s.store) c.in-Some.j m c.if-bytes-window.false _ r c.if-lacks-space.true in
-    subst (λ v. Sent c.args.window (at s) c.args.number c.args.bytes.now (noted v (at s))) (sym c.lacked-one-since.ensures) x
+    let r = c.lacks_space.ensures ∙ ap (λ f. lacks s.store.space s.store.most c.args.window.packet (vec_len s.store.bytes) f c.in-Some.j (length c.args.bytes.now)) s.store.lengths.ok.0 in
+    let x = step_lacking c.args.window (at s) c.args.number c.args.bytes.now _ _ (counts s.store) (weighs s.store) c.in-Some.j m c.if-bytes-window.false _ r c.if-lacks_space.true in
+    subst (λ v. Sent c.args.window (at s) c.args.number c.args.bytes.now (noted v (at s))) (sym c.lacked_one-since.ensures) x
 
 pub returns-then-j-count : goal.returns-then-j-count
 returns-then-j-count c =
@@ -138,7 +156,7 @@ returns-then-j-count c =
     let b = c.settle.ensures in
     let o = s.store.lengths.ok.0 in
     let m = subst (λ f. Meant w f (early_from f (vec_items s.ahead.room) s.ahead.slots) c.args.number j) o c.in-Some.ensures in
-    let r = c.lacks-space.ensures ∙ ap (λ f. lacks s.store.space s.store.most w.packet (vec_len s.store.bytes) f j many) o in
+    let r = c.lacks_space.ensures ∙ ap (λ f. lacks s.store.space s.store.most w.packet (vec_len s.store.bytes) f j many) o in
     let same : j ≡ length (vec_items s.store.lengths) = c.if-j-count.true ∙ c.count.ensures ∙ o in
     let t = cut (vec_items s.store.bytes) (vec_items s.store.lengths) in
     let u = cut (vec_items t'.bytes) (vec_items t'.lengths) in
@@ -146,7 +164,7 @@ returns-then-j-count c =
     subst (λ v. Follows v (lookup (vec_items s.ahead.room) s.ahead.slots) u) a.taken b.taken in
     step_kept w (at s) c.args.number c.args.bytes.now _ _ (counts s.store) (weighs s.store) j m c.if-bytes-window.false _ r
     (sink_at s.gathers s.window (vec_items t'.bytes) (vec_items t'.lengths) (vec_items s.ahead.room) s.ahead.slots t'.space t'.most Otherwise)
-    c.if-lacks-space.false (λ _. same)
+    c.if-lacks_space.false (λ _. same)
     (kept_first t u c.args.bytes.now (vec_items s.ahead.room) s.ahead.slots (length (vec_items s.store.lengths)) j (counts s.store) same x s.window (length (vec_items t'.lengths)) (counts t'))
     refl (b.space ∙ a.space) (b.most ∙ a.most) refl
 
@@ -164,7 +182,7 @@ returns-then-self c =
     let o = s.store.lengths.ok.0 in
     let f = length (vec_items s.store.lengths) in
     let m = subst (λ f. Meant w f (early_from f (vec_items s.ahead.room) s.ahead.slots) c.args.number j) o c.in-Some.ensures in
-    let r = c.lacks-space.ensures ∙ ap (λ f. lacks s.store.space s.store.most w.packet (vec_len s.store.bytes) f j many) o in
+    let r = c.lacks_space.ensures ∙ ap (λ f. lacks s.store.space s.store.most w.packet (vec_len s.store.bytes) f j many) o in
     let close : j < f + 16 = omega (arith, m.within, burst_most w h) in
     let later : f < j = omega (arith, m.from, c.if-j-count.false, c.count.ensures, o) in
     let t = cut (vec_items s.store.bytes) (vec_items s.store.lengths) in
@@ -172,7 +190,7 @@ returns-then-self c =
     let none : lookup (vec_items k'.room) k'.slots (length t) ≡ None = subst (λ v. lookup (vec_items k'.room) k'.slots v ≡ None) (counts s.store) (free_at (vec_items k'.room) k'.slots f past) in
     step_kept w (at s) c.args.number c.args.bytes.now _ _ (counts s.store) (weighs s.store) j m c.if-bytes-window.false _ r
     (sink_at s.gathers s.window (vec_items s.store.bytes) (vec_items s.store.lengths) (vec_items k'.room) k'.slots s.store.space s.store.most Otherwise)
-    c.if-lacks-space.false (λ z. absurd (both_ways s.gathers z c.if-self.true))
+    c.if-lacks_space.false (λ z. absurd (both_ways s.gathers z c.if-self.true))
     (kept_gather s.ahead.slots k'.slots j many wide c.keep.ensures.slots (vec_items s.ahead.room) (vec_items k'.room) c.args.bytes.now f refl m.from close
     (λ k n q. omega (arith, s.near k n q, o, eb, burst_most w h)) (λ k n q. omega (arith, fits_at s w.packet e k n q, size_most w h)) c.keep.ensures.here c.keep.ensures.others
     s.window t t f (counts s.store) (counts s.store) (omega arith) (follows_none t (lookup (vec_items k'.room) k'.slots) none))
@@ -186,6 +204,6 @@ returns-else-self c =
     let many = length c.args.bytes.now in
     let o = s.store.lengths.ok.0 in
     let m = subst (λ f. Meant w f (early_from f (vec_items s.ahead.room) s.ahead.slots) c.args.number j) o c.in-Some.ensures in
-    let r = c.lacks-space.ensures ∙ ap (λ f. lacks s.store.space s.store.most w.packet (vec_len s.store.bytes) f j many) o in
+    let r = c.lacks_space.ensures ∙ ap (λ f. lacks s.store.space s.store.most w.packet (vec_len s.store.bytes) f j many) o in
     step_dropped w (at s) c.args.number c.args.bytes.now _ _ (counts s.store) (weighs s.store) j m c.if-bytes-window.false _ r
-    c.if-lacks-space.false c.if-self.false (λ e. c.if-j-count.false (e ∙ sym (c.count.ensures ∙ o)))
+    c.if-lacks_space.false c.if-self.false (λ e. c.if-j-count.false (e ∙ sym (c.count.ensures ∙ o)))

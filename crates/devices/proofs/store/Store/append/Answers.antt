@@ -7,11 +7,11 @@ use Rattle.devices.specs.Taken.{cut}
 use Rattle.devices.specs.Cutting.{cut_push, sum_push}
 use Rattle.devices.proofs.store.Store.append.Goals as goal
 
-pub invariant-of-self : goal.invariant-of-self
-invariant-of-self c =
+pub invariant_of-self : goal.invariant_of-self
+invariant_of-self c =
     let s = c.args.self.now in
-    let e = c.extend-from-slice in
-    let p = c.push-reserved in
+    let e = c.extend_from_slice in
+    let p = c.push_reserved in
     let l : vec_len s.bytes + length c.args.packet.now ≤ vec_capacity s.bytes = omega (arith, c.requires.spaced, s.spaced) in
     let grown : vec_items e.new.self ≡ vec_items s.bytes ++ c.args.packet.now = e.ensures.items ∙ cond-true (is_ok e.result) _ _ (e.ensures.succeeds l) in
     let n = length c.args.packet.now in
@@ -22,13 +22,13 @@ invariant-of-self c =
     let co : s.most ≤ vec_capacity p.new.self = omega (arith, s.counted, p.ensures.capacity) in
     let i : length (vec_items e.new.self) ≤ s.space = omega (arith, b, c.requires.spaced, s.bytes.ok.0) in
     let t : length (vec_items p.new.self) ≤ s.most = omega (arith, ap length p.ensures.items ∙ length_push (vec_items s.lengths) n, c.requires.counted, s.lengths.ok.0) in
-    (w, (sp, (co, (i, (t, (s.few, (s.short, tt)))))))
+    record { whole = w; spaced = sp; counted = co; inside = i; within = t; few = s.few; short = s.short }
 
 pub returns : goal.returns
 returns c =
     let s = c.args.self.now in
-    let e = c.extend-from-slice in
-    let p = c.push-reserved in
+    let e = c.extend_from_slice in
+    let p = c.push_reserved in
     let l : vec_len s.bytes + length c.args.packet.now ≤ vec_capacity s.bytes = omega (arith, c.requires.spaced, s.spaced) in
     let grown : vec_items e.new.self ≡ vec_items s.bytes ++ c.args.packet.now = e.ensures.items ∙ cond-true (is_ok e.result) _ _ (e.ensures.succeeds l) in
     record {

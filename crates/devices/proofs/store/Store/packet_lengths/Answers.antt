@@ -6,4 +6,4 @@ use Rattle.devices.proofs.store.Store.packet_lengths.Goals as goal
 pub returns : goal.returns
 returns c =
     let s = c.args.self.now in
-    c.as-slice.ensures.value ∙ sym (lengths_cut (vec_items s.bytes) (vec_items s.lengths) s.whole)
+    c.as_slice.ensures.value ∙ sym (lengths_cut (vec_items s.bytes) (vec_items s.lengths) s.whole)
