@@ -1,21 +1,18 @@
 -- Each call of a sink has one answer and one outcome.
-use Rattle.std.proofs.Common.{◌≡◌, ℕ, zero, suc, ◌+◌, ◌%◌, ◌^◌, ◌<◌, ◌≤◌, Bool, true, false, cond, ltb, ◌⊎◌, List, [], length, get_or, Some, None, vec_items, Option, sym, refl, ap, ◌∙◌, subst, inl, inr, arith}
-use Rattle.std.proofs.lemmas.Bool.{cases_order, both_ways}
+use Rattle.std.proofs.Common.{◌≡◌, ℕ, zero, suc, ◌^◌, ◌<◌, true, false, List, length, Some, None, vec_items, Option, sym, ap, ◌∙◌, subst, arith}
+use Rattle.std.proofs.lemmas.Bool.{both_ways}
 use Rattle.link.specs.declared.term.Window.{Window}
-use Rattle.link.specs.declared.answers.PollAnswer.{PollAnswer}
-use Rattle.link.specs.declared.answers.PollAnswer.TheVariants.{Data, NotReady, Stall, Silence}
 use Rattle.link.specs.declared.answers.Collected.{Collected}
 use Rattle.link.specs.declared.answers.Collected.TheVariants as collected
 use Rattle.link.specs.Bounds.{sound}
-use Rattle.link.specs.Meaning.{In, Out, Aim, Allowed, Meant, Kept, Vector, moved, count}
+use Rattle.link.specs.Meaning.{Out, Meant, Kept, Vector}
 use Rattle.link.proofs.Fixed.{kept_same, vector_same}
 use Rattle.link.proofs.Solo.{solo_gapless}
 use Rattle.link.proofs.Sound.{range_twice, range_least}
 use Rattle.devices.specs.declared.since.Since.{Since}
 use Rattle.devices.specs.declared.since.Since.TheVariants.{Nothing, Lacking, Otherwise}
-use Rattle.devices.specs.Since.{lacked_one}
 use Rattle.reader.specs.Restarted.{sounds}
-use Rattle.devices.specs.Sinking.{SinkPipe, Sent, nowhere, lacking, dropped, kept, noted, short, SentIn, SinkSent, SinkRestarted, SinkCollected, CollectedIn, Answers}
+use Rattle.devices.specs.Sinking.{SinkPipe, Sent, nowhere, lacking, dropped, kept, short, SentIn, SinkSent, SinkRestarted, SinkCollected, CollectedIn, Answers}
 use Rattle.devices.specs.Fixed.{Word, SinksFixed, NoGaps, PlainInOrder}
 use Rattle.devices.specs.Keeping.{early_none}
 use Rattle.devices.specs.Mods.{mod_near}

@@ -1,21 +1,17 @@
 -- A sink's Sends and Collects, by what its code finds.
-use Rattle.std.proofs.Common.{◌≡◌, ℕ, suc, ◌+◌, ◌-◌, ◌*◌, ◌<◌, ◌≤◌, Bool, true, false, cond, eqb, ltb, ◌⊎◌, List, [], ◌∷◌, ◌++◌, length, get_or, take, drop, Some, None, Option, sym, refl, ap, ◌∙◌, subst, inl, inr, ⊎_elim, arith}
-use Rattle.std.proofs.lemmas.List.{take_at, get_or_push, length_push}
-use Rattle.std.proofs.lemmas.Bool.{cond-true, cond-false, lt-ltb, le-ltb, cases_lt, eq-eqb, ne_eqb}
+use Rattle.std.proofs.Common.{◌≡◌, ℕ, ◌<◌, ◌≤◌, Bool, true, false, List, length, Some, Option, sym, refl, ap, ◌∙◌, subst, arith}
 use Rattle.link.specs.declared.term.Window.{Window}
 use Rattle.link.specs.Bounds.{sound}
-use Rattle.link.specs.Meaning.{Out, Meant, Kept, Follows, beside, Vector}
+use Rattle.link.specs.Meaning.{Out, Meant, Kept, Vector}
 use Rattle.link.specs.Terms.{bytes_of}
 use Rattle.devices.specs.declared.since.Since.{Since}
-use Rattle.devices.specs.declared.since.Since.TheVariants.{Nothing, Lacking, Otherwise}
+use Rattle.devices.specs.declared.since.Since.TheVariants.{Nothing, Otherwise}
 use Rattle.devices.specs.Since.{lacked_one}
-use Rattle.reader.specs.Bytes.{sum_of}
-use Rattle.devices.specs.Taken.{cut, lacks}
+use Rattle.devices.specs.Taken.{lacks}
 use Rattle.reader.specs.Restarted.{sounds}
 use Rattle.devices.specs.Sinking.{SinkPipe, Sent, nowhere, lacking, dropped, kept, noted, short, SentIn, SinkSent, CollectedIn, SinkCollected, Answers}
 use Rattle.link.specs.declared.answers.Collected.{Collected}
 use Rattle.link.specs.declared.answers.Collected.TheVariants as collected
-use Rattle.devices.specs.Cutting.{length_cut, bytes_cut}
 
 pub sound_of : (n : Option Window) (w : Window) → n ≡ Some w → sounds n ≡ true → sound w ≡ true
 sound_of n w e h = subst (λ v. sounds v ≡ true) e h

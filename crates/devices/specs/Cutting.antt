@@ -1,7 +1,7 @@
 -- The packets of a store.
-use Rattle.std.specs.Prelude.{◌≡◌, ℕ, suc, ◌+◌, ◌-◌, ◌≤◌, List, [], ◌∷◌, ◌++◌, length, take, drop, refl}
-use Rattle.std.proofs.Common.{sym, ap, ◌∙◌, arith, length-drop, length-take, length-append}
-use Rattle.std.proofs.lemmas.List.{take-append-drop, length-take-le, take_all, drop_all, take-append-le, drop-append-le}
+use Rattle.std.specs.Prelude.{◌≡◌, ℕ, suc, ◌+◌, ◌≤◌, List, [], ◌∷◌, ◌++◌, length, take, drop, refl}
+use Rattle.std.proofs.Common.{ap, ◌∙◌, arith, length-drop, length-take}
+use Rattle.std.proofs.lemmas.List.{take-append-drop, length-take-le, take_all, take-append-le, drop-append-le}
 use Rattle.link.specs.Terms.{bytes_of}
 use Rattle.reader.specs.Bytes.{flat, lengths_of, sum_of}
 use Rattle.devices.specs.Taken.{cut}

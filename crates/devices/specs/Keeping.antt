@@ -1,16 +1,15 @@
 -- A packet is kept ahead of order.
-use Rattle.std.specs.Prelude.{◌≡◌, ℕ, suc, ◌+◌, ◌-◌, ◌*◌, ◌%◌, ◌^◌, ◌<◌, ◌≤◌, min, Bool, true, false, cond, ◌||◌, ◌⊎◌, List, [], ◌∷◌, ◌++◌, length, take, replicate, Some, None, Option, ◌==◌, ◌≢◌, nat_lt, slice_index_or, slice_set, refl}
+use Rattle.std.specs.Prelude.{◌≡◌, ℕ, ◌+◌, ◌-◌, ◌*◌, ◌%◌, ◌^◌, ◌<◌, ◌≤◌, min, Bool, true, false, cond, ◌⊎◌, List, [], ◌∷◌, ◌++◌, length, take, replicate, Some, None, Option, ◌==◌, ◌≢◌, nat_lt, slice_index_or, slice_set, refl}
 use Rattle.std.proofs.Common.{sym, ap, subst, ◌∙◌, inl, inr, mod-lt, arith, length-take}
 use Rattle.std.proofs.Math.Path.{fun_ext}
-use Rattle.std.specs.Option.{option_map}
 use Rattle.std.proofs.lemmas.List.{get_or-replicate, get_or-set_same, get_or-set_other, take_all, take-take, take_at, length_push, get_or_push, get_or-take}
-use Rattle.std.proofs.lemmas.Bool.{cases_lt, cases_eq, cond-true, cond-false, lt-ltb, le-ltb, eq-eqb, ne_eqb, cases_Bool, eqb-true, or_parts, ltb-false}
+use Rattle.std.proofs.lemmas.Bool.{cases_lt, cases_eq, cond-true, cond-false, lt-ltb, le-ltb, eq-eqb, ne_eqb, or_parts, ltb-false}
 use Rattle.link.specs.declared.term.Window.{Window}
 use Rattle.link.specs.Bounds.{sound}
-use Rattle.link.specs.Meaning.{Follows, Kept, Meant, Out, beside}
+use Rattle.link.specs.Meaning.{Follows, Kept, Meant, beside}
 use Rattle.devices.specs.declared.held.Held.{Held}
 use Rattle.devices.specs.Early.{length_of, held_as, lookup, part, early_from, Spaced}
-use Rattle.devices.specs.Taken.{lacks, cut}
+use Rattle.devices.specs.Taken.{lacks}
 use Rattle.devices.specs.Sinking.{SinkPipe, SinkRestarted, fresh, unused}
 use Rattle.devices.specs.Sinks.{sink_at}
 use Rattle.devices.specs.declared.since.Since.TheVariants.{Nothing}

@@ -1,14 +1,13 @@
 -- The sinks' steps meet the clauses.
-use Rattle.std.specs.Prelude.{◌≡◌, ℕ, zero, suc, ◌+◌, ◌-◌, ◌*◌, ◌^◌, ◌<◌, ◌≤◌, Bool, true, false, cond, ◌⊎◌, List, [], ◌∷◌, ◌++◌, length, Some, None, Option, refl}
-use Rattle.std.proofs.Common.{sym, ap, subst, ◌∙◌, inl, inr, ⊎_elim, arith}
+use Rattle.std.specs.Prelude.{◌≡◌, ℕ, zero, suc, ◌^◌, ◌<◌, ◌≤◌, Bool, true, false, cond, List, length, Some, None, Option, refl}
+use Rattle.std.proofs.Common.{sym, ap, subst, ◌∙◌, inl, inr, arith}
 use Rattle.link.specs.declared.term.Window.{Window}
 use Rattle.link.specs.declared.answers.PollAnswer.{PollAnswer}
 use Rattle.link.specs.declared.answers.PollAnswer.TheVariants as poll
 use Rattle.link.specs.declared.answers.Collected.{Collected}
-use Rattle.link.specs.declared.answers.Collected.TheVariants as collected
 use Rattle.link.specs.Bounds.{sound}
-use Rattle.link.specs.Meaning.{Out, Pipe, absent, outward, solo, Only, Restarts, Polls, Fetches, Sends, Keeps, Collects, Shows, Tells, Vector}
-use Rattle.link.specs.Terms.{Bounded, OutBounds, Ahead, bytes_of}
+use Rattle.link.specs.Meaning.{Out, Pipe, absent, outward, solo, Only, Restarts, Polls, Fetches, Sends, Keeps, Collects, Shows, Tells}
+use Rattle.link.specs.Terms.{OutBounds, Ahead}
 use Rattle.link.proofs.Solo.{still_absent}
 use Rattle.link.proofs.Solo as one-pipe
 use Rattle.devices.specs.declared.since.Since.{Since}

@@ -101,7 +101,7 @@ fn packets_of_a_message(rt: HostRuntime) -> Result<(), Fail> {
     ok = ok & gives(&mut r, 0, &[7]);
     ok = ok & loses(&mut r, 1);
     ok = ok & (r.unsent_messages() == 1);
-    ok = ok & (r.unsent_bytes() == &[7]);
+    ok = ok & (r.unsent_bytes() == [7].as_slice());
     assert!(rt; ok);
     Ok(())
 }
@@ -237,7 +237,7 @@ fn restart_in_the_middle_of_a_message(rt: HostRuntime) -> Result<(), Fail> {
         },
     );
     ok = ok & (r.unsent_messages() == 2);
-    ok = ok & (r.unsent_bytes() == &[5, 6, 7, 8, 9]);
+    ok = ok & (r.unsent_bytes() == [5, 6, 7, 8, 9].as_slice());
     ok = ok & (r.poll(0, 0b11) == PollAnswer::Data);
     ok = ok & gives(&mut r, 0, &[5, 6, 7]);
     ok = ok & gives(&mut r, 1, &[8]);

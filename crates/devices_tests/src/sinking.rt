@@ -74,8 +74,8 @@ fn packets_in_order(rt: HostRuntime) -> Result<(), Fail> {
     s.send(0, 0, &[1, 2, 3, 4]);
     s.send(0, 1, &[]);
     s.send(0, 2, &[5]);
-    ok = ok & (s.taken_bytes() == &[1, 2, 3, 4, 5]);
-    ok = ok & (s.taken_lengths() == &[4, 0, 1]);
+    ok = ok & (s.taken_bytes() == [1, 2, 3, 4, 5].as_slice());
+    ok = ok & (s.taken_lengths() == [4, 0, 1].as_slice());
     ok = ok & (s.collect(0) == Collected::Vector(0x78));
     // A number that was taken, one past the window, one at the range, and one packet longer than P, are dropped.
     s.send(0, 2, &[6]);
@@ -96,7 +96,7 @@ fn a_plain_sink_keeps_no_early_packet(rt: HostRuntime) -> Result<(), Fail> {
     s.restart(0, numbers());
     s.send(0, 1, &[2]);
     s.send(0, 0, &[1]);
-    ok = ok & (s.taken_bytes() == &[1]);
+    ok = ok & (s.taken_bytes() == [1].as_slice());
     ok = ok & (s.collect(0) == Collected::Vector(0x1E));
     assert!(rt; ok);
     Ok(())
@@ -115,11 +115,11 @@ fn a_gathering_sink_keeps_early_packets(rt: HostRuntime) -> Result<(), Fail> {
     // An early packet that comes again is dropped.
     s.send(0, 1, &[9]);
     s.send(0, 0, &[1]);
-    ok = ok & (s.taken_bytes() == &[1, 2]);
+    ok = ok & (s.taken_bytes() == [1, 2].as_slice());
     ok = ok & (s.collect(0) == Collected::Vector(0x34));
     s.send(0, 2, &[3, 3, 3, 3]);
-    ok = ok & (s.taken_bytes() == &[1, 2, 3, 3, 3, 3, 4, 4]);
-    ok = ok & (s.taken_lengths() == &[1, 1, 4, 2]);
+    ok = ok & (s.taken_bytes() == [1, 2, 3, 3, 3, 3, 4, 4].as_slice());
+    ok = ok & (s.taken_lengths() == [1, 1, 4, 2].as_slice());
     ok = ok & (s.collect(0) == Collected::Vector(0xF0));
     assert!(rt; ok);
     Ok(())
@@ -140,7 +140,7 @@ fn the_wrap_with_a_packet_lost(rt: HostRuntime) -> Result<(), Fail> {
     ok = ok & (s.collect(0) == Collected::Vector(0x42));
     ok = ok & (s.taken_lengths().len() == 6);
     s.send(0, 6, &[6]);
-    ok = ok & (s.taken_bytes() == &[0, 1, 2, 3, 4, 5, 6, 7, 8]);
+    ok = ok & (s.taken_bytes() == [0, 1, 2, 3, 4, 5, 6, 7, 8].as_slice());
     ok = ok & (s.collect(0) == Collected::Vector(0x1E));
     // Number 0 is taken now, and stands for no packet of the window.
     s.send(0, 0, &[99]);
@@ -190,7 +190,7 @@ fn a_restart_frees_all(rt: HostRuntime) -> Result<(), Fail> {
     );
     s.send(0, 1, &[3, 4]);
     s.send(0, 0, &[1, 2]);
-    ok = ok & (s.taken_bytes() == &[1, 2, 3, 4]);
+    ok = ok & (s.taken_bytes() == [1, 2, 3, 4].as_slice());
     s.restart(
         0,
         Window {
@@ -214,7 +214,7 @@ fn a_restart_frees_all(rt: HostRuntime) -> Result<(), Fail> {
     );
     ok = ok & (s.collect(0) == Collected::Vector(0b01));
     s.send(0, 0, &[5]);
-    ok = ok & (s.taken_bytes() == &[5]);
+    ok = ok & (s.taken_bytes() == [5].as_slice());
     assert!(rt; ok);
     Ok(())
 }

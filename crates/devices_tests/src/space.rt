@@ -77,9 +77,9 @@ fn full_packets_count_for_those_before(rt: HostRuntime) -> Result<(), Fail> {
     ok = ok & (s.collect(0) == Collected::NotReady);
     // Packet 0 takes no byte: now there is space again.
     s.send(0, 0, &[]);
-    ok = ok & (s.taken_lengths() == &[0, 2]);
+    ok = ok & (s.taken_lengths() == [0, 2].as_slice());
     s.send(0, 2, &[3, 4, 5, 6]);
-    ok = ok & (s.taken_bytes() == &[1, 2, 3, 4, 5, 6]);
+    ok = ok & (s.taken_bytes() == [1, 2, 3, 4, 5, 6].as_slice());
     ok = ok & (s.collect(0) == Collected::Vector(0x78));
     assert!(rt; ok);
     Ok(())

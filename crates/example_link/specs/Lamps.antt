@@ -5,7 +5,7 @@ use Rattle.std.proofs.Math.Nat.{zero-mod}
 use Rattle.std.proofs.lemmas.Bool.Decides.{nat_tests}
 use Rattle.link.specs.declared.term.Window.{Window}
 use Rattle.link.specs.Bounds.{sound}
-use Rattle.link.specs.Meaning.{Out, Pipe, outward, solo, beside, Follows, Kept, Keeps, Sends, Only}
+use Rattle.link.specs.Meaning.{Out, outward, solo, beside, Follows, Kept, Keeps, Sends, Only}
 use Rattle.link.proofs.Solo.{only_zero, unchanged}
 use Rattle.link.proofs.Sound.{sized, burst_least}
 use Rattle.example_link.specs.Lamp.{fits, lamp, keeps, SentAt, SentLamp}

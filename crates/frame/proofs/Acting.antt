@@ -1,13 +1,9 @@
 -- What happens for one set leaves the others, and a spared piece shows what it did.
-use Rattle.std.proofs.Common.{◌≡◌, ℕ, zero, suc, ◌+◌, ◌-◌, ◌*◌, ◌/◌, ◌%◌, ◌<◌, ◌≤◌, Bool, true, false, cond, ◌&&◌, eqb, ◌≢◌, ◌⊎◌, List, [], ◌∷◌, ◌++◌, map, length, get_or, take, drop, set, replicate, Some, None, Ok, Err, Option, Result, sym, refl, ap, ◌∙◌, subst, inl, inr, add-zero, add-suc, suc-add, zero-add, arith}
-use lib.Seq.{sets}
-use Rattle.memory.specs.declared.buffer.Kind.{Kind}
-use Rattle.memory.specs.declared.buffer.Kind.TheVariants.{Direct, Listed}
+use Rattle.std.proofs.Common.{◌≡◌, ℕ, zero, suc, ◌/◌, Some, sym, refl, ap, ◌∙◌, subst, inl, inr}
 use Rattle.memory.specs.declared.buffer.Buffer.{Buffer}
 use Rattle.owners.specs.declared.table.Owner.{Owner}
-use Rattle.owners.specs.Naming.{Names}
-use Rattle.owners.specs.Claims.{Table, owner}
-use Rattle.frame.specs.Worlds.{World, Owned, bytes, Queued, queued, Act, write, give, queue, reap, after, For, Spares, Sparing, Unaltered}
+use Rattle.owners.specs.Claims.{owner}
+use Rattle.frame.specs.Worlds.{World, Owned, bytes, Act, write, give, queue, reap, after, For, Spares, Sparing, Unaltered}
 use Rattle.frame.proofs.Written.{same_owner, write_owned, write_quiet, write_bytes}
 use Rattle.frame.proofs.Putting.{put_owned, put_quiet, put_bytes}
 use Rattle.frame.proofs.Reaping.{reap_owned, held_other, table_other, table_some}

@@ -1,20 +1,16 @@
 -- What a claim that ends well did to the table.
-use Rattle.std.proofs.Common.{◌≡◌, ℕ, zero, suc, ◌+◌, ◌-◌, ◌*◌, ◌/◌, ◌%◌, ◌<◌, ◌≤◌, Bool, true, false, cond, ◌&&◌, eqb, ◌≢◌, ◌⊎◌, List, [], ◌∷◌, ◌++◌, map, length, get_or, take, drop, set, replicate, Some, None, Ok, Err, Option, Result, sym, refl, ap, ◌∙◌, subst, inl, inr, add-zero, add-suc, suc-add, zero-add, arith}
-use lib.Seq.{sets}
-use Rattle.memory.specs.declared.buffer.Kind.{Kind}
-use Rattle.memory.specs.declared.buffer.Kind.TheVariants.{Direct, Listed}
+use Rattle.std.proofs.Common.{◌≡◌, ℕ, zero, suc, ◌+◌, ◌<◌, ◌≤◌, ◌⊎◌, List, [], ◌∷◌, ◌++◌, length, get_or, set, Some, None, Ok, sym, refl, ap, ◌∙◌, subst, inl, inr, arith}
 use Rattle.memory.specs.declared.buffer.Buffer.{Buffer}
 use Rattle.owners.specs.declared.table.Owner.{Owner}
-use Rattle.refusal.specs.declared.reason.Refusal.{Refusal}
 use Rattle.memory.specs.Faults.{Fault, no_buffer}
 use Rattle.owners.specs.Naming.{Naming, names, named, part_of, buffer_namings, namings}
-use Rattle.owners.specs.Claims.{Table, next, take_page, claimed}
+use Rattle.owners.specs.Claims.{Table, take_page, claimed}
 use Rattle.owners.proofs.Undoing.{next_ok, page_ok, same_table}
 use Rattle.owners.proofs.Ordering.{In, set_from}
-use Rattle.owners.proofs.Telling.{in_left, in_right, in_pages}
+use Rattle.owners.proofs.Telling.{in_left, in_pages}
 use Rattle.owners.proofs.Putting.{never_both}
 use Rattle.std.proofs.lemmas.List.{length-set, get_or-set_same, get_or-set_other}
-use Rattle.std.proofs.lemmas.Bool.{cases_lt, cases_eq}
+use Rattle.std.proofs.lemmas.Bool.{cases_eq}
 
 -- no page stands twice in a list of namings
 abbrev pub Distinct : List Naming → Type 0

@@ -1,12 +1,8 @@
 -- A world in which a piece is held and all is owned.
-use Rattle.std.proofs.Common.{◌≡◌, ℕ, zero, suc, ◌+◌, ◌-◌, ◌*◌, ◌/◌, ◌%◌, ◌<◌, ◌≤◌, Bool, true, false, cond, ◌&&◌, eqb, ◌≢◌, ◌⊎◌, List, [], ◌∷◌, ◌++◌, map, length, get_or, take, drop, set, replicate, Some, None, Ok, Err, Option, Result, sym, refl, ap, ◌∙◌, subst, inl, inr, add-zero, add-suc, suc-add, zero-add, arith}
-use lib.Seq.{sets}
-use Rattle.memory.specs.declared.buffer.Kind.{Kind}
-use Rattle.memory.specs.declared.buffer.Kind.TheVariants.{Direct, Listed}
+use Rattle.std.proofs.Common.{◌≡◌, ℕ, cond, ◌&&◌, eqb, List, [], ◌∷◌, length, set, Some, None, Ok, Option, sym, refl, inl, inr, arith}
+use Rattle.memory.specs.declared.buffer.Kind.TheVariants.{Direct}
 use Rattle.memory.specs.declared.buffer.Buffer.{Buffer}
-use Rattle.owners.specs.declared.table.Owner.{Owner}
 use Rattle.memory.specs.Judge.{pieces_from}
-use Rattle.memory.specs.Faults.{no_buffer}
 use Rattle.owners.specs.Claims.{Table, owner, claim}
 use Rattle.std.proofs.lemmas.Bool.{cond-false}
 use Rattle.frame.specs.Worlds.{World, Owned, Queued, queued}

@@ -1,13 +1,11 @@
 -- Bytes put to pages that nobody owns leave every piece alone.
-use Rattle.std.proofs.Common.{◌≡◌, ℕ, zero, suc, ◌+◌, ◌-◌, ◌*◌, ◌/◌, ◌%◌, ◌<◌, ◌≤◌, Bool, true, false, cond, ◌&&◌, eqb, ◌≢◌, ◌⊎◌, List, [], ◌∷◌, ◌++◌, map, length, get_or, take, drop, set, replicate, Some, None, Ok, Err, Option, Result, sym, refl, ap, ◌∙◌, subst, inl, inr, add-zero, add-suc, suc-add, zero-add, arith}
-use lib.Seq.{sets, length-sets}
-use Rattle.memory.specs.declared.buffer.Kind.{Kind}
-use Rattle.memory.specs.declared.buffer.Kind.TheVariants.{Direct, Listed}
+use Rattle.std.proofs.Common.{◌≡◌, ℕ, ◌+◌, ◌*◌, ◌/◌, ◌<◌, List, length, get_or, Some, None, Ok, ap, ◌∙◌, inl, inr, arith}
+use lib.Seq.{length-sets}
 use Rattle.memory.specs.declared.buffer.Buffer.{Buffer}
 use Rattle.owners.specs.declared.table.Owner.{Owner}
 use Rattle.owners.specs.Naming.{Names}
 use Rattle.owners.specs.Claims.{Table, owner}
-use Rattle.owners.specs.Puts.{put_verdict, PutTold, Meets}
+use Rattle.owners.specs.Puts.{put_verdict, Meets}
 use Rattle.owners.proofs.Putting.{put_law}
 use Rattle.std.proofs.lemmas.Bool.{cases_lt, cases_eq}
 use Rattle.frame.specs.Worlds.{World, Owned, bytes, put}

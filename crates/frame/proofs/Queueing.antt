@@ -1,18 +1,13 @@
 -- Pieces queued own what they name.
-use Rattle.std.proofs.Common.{◌≡◌, ℕ, zero, suc, ◌+◌, ◌-◌, ◌*◌, ◌/◌, ◌%◌, ◌<◌, ◌≤◌, Bool, true, false, cond, ◌&&◌, eqb, ◌≢◌, ◌⊎◌, List, [], ◌∷◌, ◌++◌, map, length, get_or, take, drop, set, replicate, Some, None, Ok, Err, Option, Result, sym, refl, ap, ◌∙◌, subst, inl, inr, add-zero, add-suc, suc-add, zero-add, arith}
-use lib.Seq.{sets}
-use Rattle.memory.specs.declared.buffer.Kind.{Kind}
-use Rattle.memory.specs.declared.buffer.Kind.TheVariants.{Direct, Listed}
+use Rattle.std.proofs.Common.{◌≡◌, ℕ, zero, suc, ◌+◌, ◌%◌, ◌<◌, ◌⊎◌, List, length, get_or, Some, None, Option, sym, refl, ap, ◌∙◌, subst, inl, inr, zero-add, arith}
 use Rattle.memory.specs.declared.buffer.Buffer.{Buffer}
 use Rattle.owners.specs.declared.table.Owner.{Owner}
-use Rattle.memory.specs.Judge.{buffer_verdict, pieces_from}
-use Rattle.memory.specs.Faults.{Fault, no_buffer}
+use Rattle.memory.specs.Faults.{no_buffer}
 use Rattle.memory.proofs.Placed.{judged_each}
-use Rattle.owners.specs.Naming.{Naming, names, named, part_of, Names, namings}
-use Rattle.owners.specs.Claims.{Table, owner, slot_owner, claim, claimed}
-use Rattle.owners.proofs.Ordering.{In}
+use Rattle.owners.specs.Naming.{named, part_of, Names, namings}
+use Rattle.owners.specs.Claims.{Table, owner, slot_owner}
 use Rattle.owners.proofs.Telling.{in_from, from_in, names_inside}
-use Rattle.std.proofs.lemmas.Bool.{cases_lt, cases_eq}
+use Rattle.std.proofs.lemmas.Bool.{cases_eq}
 use Rattle.frame.specs.Worlds.{World, Owned, OwnedBy, Queued, queued}
 use Rattle.frame.proofs.Written.{same_buffer, same_owner}
 use Rattle.frame.proofs.Reaping.{owned_grows}

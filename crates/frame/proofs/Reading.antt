@@ -1,14 +1,12 @@
 -- What is read is what a buffer shows; at the start all is owned.
-use Rattle.std.proofs.Common.{◌≡◌, ℕ, zero, suc, ◌+◌, ◌-◌, ◌*◌, ◌/◌, ◌%◌, ◌<◌, ◌≤◌, Bool, true, false, cond, ◌&&◌, eqb, ◌≢◌, ◌⊎◌, List, [], ◌∷◌, ◌++◌, map, length, get_or, take, drop, set, replicate, Some, None, Ok, Err, Option, Result, sym, refl, ap, ◌∙◌, subst, inl, inr, add-zero, add-suc, suc-add, zero-add, arith}
+use Rattle.std.proofs.Common.{◌≡◌, ℕ, ◌+◌, ◌-◌, ◌*◌, ◌/◌, ◌≤◌, List, [], ◌∷◌, ◌++◌, length, get_or, take, drop, replicate, Some, None, sym, refl, ap, ◌∙◌, inl, inr, zero-add, arith}
 use lib.Seq.{sets, sets-eq}
-use Rattle.memory.specs.declared.buffer.Kind.{Kind}
-use Rattle.memory.specs.declared.buffer.Kind.TheVariants.{Direct, Listed}
+use Rattle.memory.specs.declared.buffer.Kind.TheVariants.{Direct}
 use Rattle.memory.specs.declared.buffer.Buffer.{Buffer}
-use Rattle.owners.specs.declared.table.Owner.{Owner}
 use Rattle.std.proofs.lemmas.List.{take_at, drop_at, get_or-replicate, get_or_past, length-replicate, append_assoc, length-take-le}
 use Rattle.std.proofs.lemmas.Bool.{cases_lt}
-use Rattle.memory.specs.Walk.{offset, page}
-use Rattle.memory.specs.Store.{stored, gathered, place}
+use Rattle.memory.specs.Walk.{offset}
+use Rattle.memory.specs.Store.{gathered, place}
 use Rattle.memory.proofs.Storing.{length_gathered, gathered_add, gathered_run, gathered_within}
 use Rattle.owners.specs.Claims.{Table, owner}
 use Rattle.owners.proofs.Putting.{never_both}

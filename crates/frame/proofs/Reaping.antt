@@ -1,19 +1,16 @@
 -- A piece let go: exactly its pages are free.
-use Rattle.std.proofs.Common.{◌≡◌, ℕ, zero, suc, ◌+◌, ◌-◌, ◌*◌, ◌/◌, ◌%◌, ◌<◌, ◌≤◌, Bool, true, false, cond, ◌&&◌, eqb, ◌≢◌, ◌⊎◌, List, [], ◌∷◌, ◌++◌, map, length, get_or, take, drop, set, replicate, Some, None, Ok, Err, Option, Result, sym, refl, ap, ◌∙◌, subst, inl, inr, add-zero, add-suc, suc-add, zero-add, arith}
-use lib.Seq.{sets}
+use Rattle.std.proofs.Common.{◌≡◌, ℕ, zero, suc, ◌+◌, ◌/◌, ◌%◌, ◌<◌, ◌≤◌, true, false, ◌&&◌, eqb, ◌≢◌, ◌⊎◌, List, [], ◌∷◌, map, length, get_or, set, Some, None, Option, sym, refl, ap, ◌∙◌, subst, inl, inr, arith}
 use Rattle.memory.specs.declared.buffer.Kind.{Kind}
 use Rattle.memory.specs.declared.buffer.Kind.TheVariants.{Direct, Listed}
 use Rattle.memory.specs.declared.buffer.Buffer.{Buffer}
 use Rattle.owners.specs.declared.table.Owner.{Owner}
 use Rattle.memory.specs.Kinds.{each}
-use Rattle.memory.specs.Walk.{offset, page, page_count}
-use Rattle.owners.specs.Naming.{names, named, Names}
+use Rattle.owners.specs.Naming.{named, Names}
 use Rattle.owners.specs.Claims.{Table, owner, freed, freed_pages, released}
-use Rattle.owners.proofs.Known.{kinds, offset_direct, page_direct, named_direct, names_none, names_direct, names_bytes}
-use Rattle.owners.proofs.Putting.{never_both}
+use Rattle.owners.proofs.Known.{kinds, offset_direct, page_direct, named_direct, names_none, names_direct}
 use Rattle.std.proofs.lemmas.List.{length-map, length-set, get_or-set_same, get_or-set_other, get_or_past, set_past}
 use Rattle.std.proofs.lemmas.Bool.{cases_lt, cases_eq, eq-eqb, ne_eqb, and_from, and_left, and_right, cond-true, cond-false}
-use Rattle.frame.specs.Worlds.{World, Owned, OwnedBy, bytes, without, reaped}
+use Rattle.frame.specs.Worlds.{World, Owned, OwnedBy, without, reaped}
 use Rattle.frame.proofs.Same.{named_owned}
 
 pub same_both : (a b i j : ℕ) → ((a ≡ i) × (b ≡ j) × ((eqb a i && eqb b j) ≡ true)) ⊎ ((a ≡ i → b ≡ j → ⊥) × ((eqb a i && eqb b j) ≡ false))

@@ -1,17 +1,17 @@
 -- What is the same where the pages that a buffer names are.
-use Rattle.std.proofs.Common.{◌≡◌, ℕ, zero, suc, ◌+◌, ◌-◌, ◌*◌, ◌/◌, ◌%◌, ◌<◌, ◌≤◌, cond, eqb, ltb, ◌≢◌, List, [], ◌∷◌, length, get_or, set, Some, None, Ok, Err, sym, refl, ap, ◌∙◌, subst, inl, inr, add-zero, zero-add, arith}
-use Rattle.std.proofs.lemmas.Bool.{cases_lt, cases_eq, eq-eqb, le-ltb, cond-true, cond-false}
+use Rattle.std.proofs.Common.{◌≡◌, ℕ, zero, suc, ◌+◌, ◌-◌, ◌*◌, ◌/◌, ◌%◌, ◌<◌, ◌≤◌, cond, eqb, ltb, List, length, get_or, Some, None, Ok, Err, sym, refl, ap, ◌∙◌, inl, inr, arith}
+use Rattle.std.proofs.lemmas.Bool.{cases_eq, eq-eqb, le-ltb, cond-true, cond-false}
 use Rattle.memory.specs.declared.buffer.Kind.{Kind}
-use Rattle.memory.specs.declared.buffer.Kind.TheVariants.{Direct, Listed}
+use Rattle.memory.specs.declared.buffer.Kind.TheVariants.{Listed}
 use Rattle.memory.specs.declared.buffer.Buffer.{Buffer}
 use Rattle.memory.specs.declared.judge.BadEntry.{BadEntry}
 use Rattle.memory.specs.declared.judge.Part.{Part}
-use Rattle.memory.specs.declared.judge.Part.TheVariants.{Whole, Entry}
+use Rattle.memory.specs.declared.judge.Part.TheVariants.{Whole}
 use Rattle.memory.specs.Kinds.{each}
-use Rattle.memory.specs.Walk.{entry, offset, page, page_count}
+use Rattle.memory.specs.Walk.{offset, page, page_count}
 use Rattle.memory.specs.Store.{stored, gathered, place}
 use Rattle.memory.specs.Judge.{Verdict, and_then, in_entry, entry_verdict, entries_from, direct_verdict, list_verdict, buffer_verdict}
-use Rattle.memory.proofs.Keeping.{entry_same, length_stored, stored_other, stored_at, get_d_gathered, place_apart, offset_listed, page_listed}
+use Rattle.memory.proofs.Keeping.{entry_same, stored_other, offset_listed, page_listed}
 use Rattle.owners.specs.declared.table.Owner.{Owner}
 use Rattle.owners.specs.Naming.{names, named, Names}
 use Rattle.owners.specs.Claims.{Table}

@@ -1,16 +1,15 @@
 -- A packet written into a piece's buffer, and what it leaves alone.
-use Rattle.std.proofs.Common.{◌≡◌, ℕ, zero, suc, ◌+◌, ◌-◌, ◌*◌, ◌/◌, ◌%◌, ◌<◌, ◌≤◌, ◌≢◌, List, [], ◌∷◌, length, get_or, set, Some, None, Option, sym, refl, ap, ◌∙◌, subst, inl, inr, add-zero, zero-add, arith}
+use Rattle.std.proofs.Common.{◌≡◌, ℕ, suc, ◌+◌, ◌-◌, ◌/◌, ◌%◌, ◌<◌, ◌≤◌, List, [], ◌∷◌, length, get_or, set, Some, None, Option, sym, refl, ap, ◌∙◌, subst, inl, inr, zero-add, arith}
 use lib.Seq.{sets, length-sets}
 use Rattle.std.proofs.lemmas.List.{ext_get_or, nil_from_length}
 use Rattle.std.proofs.lemmas.Bool.{cases_lt, cases_eq}
-use Rattle.memory.specs.declared.buffer.Kind.TheVariants.{Direct, Listed}
 use Rattle.memory.specs.declared.buffer.Buffer.{Buffer}
-use Rattle.memory.specs.Walk.{offset, page, page_count}
-use Rattle.memory.specs.Store.{stored, gathered, place}
+use Rattle.memory.specs.Walk.{offset}
+use Rattle.memory.specs.Store.{stored, place}
 use Rattle.memory.proofs.Storing.{length_gathered}
 use Rattle.memory.proofs.Keeping.{length_stored, stored_other, stored_at, get_d_gathered, place_apart}
 use Rattle.owners.specs.declared.table.Owner.{Owner}
-use Rattle.owners.specs.Naming.{names, named, Names}
+use Rattle.owners.specs.Naming.{Names}
 use Rattle.owners.specs.Claims.{Table, owner}
 use Rattle.owners.proofs.Known.{page_inside}
 use Rattle.frame.specs.Worlds.{World, Owned, OwnedBy, bytes, written}

@@ -1,12 +1,11 @@
 -- The frame theorems: what is done to one piece leaves the others, and ownership is kept.
-use Rattle.std.specs.Prelude.{◌≡◌, ℕ, ◌+◌, ◌*◌, ◌/◌, ◌%◌, ◌<◌, ◌≤◌, List, [], ◌∷◌, length, take, drop, replicate, Some, None, Ok, Option, ◌≢◌, slice_index, slice_index_or}
+use Rattle.std.specs.Prelude.{◌≡◌, ℕ, ◌+◌, ◌*◌, ◌/◌, ◌<◌, ◌≤◌, List, [], ◌∷◌, length, take, drop, replicate, Some, None, Ok, Option, ◌≢◌, slice_index, slice_index_or}
 use Rattle.std.proofs.lemmas.List.Edits.{sets}
 use Rattle.memory.specs.declared.buffer.Kind.TheVariants.{Direct, Listed}
 use Rattle.memory.specs.declared.buffer.Buffer.{Buffer}
-use Rattle.memory.specs.Store.{stored, gathered, place}
-use Rattle.owners.specs.declared.table.Owner.{Owner}
+use Rattle.memory.specs.Store.{gathered, place}
 use Rattle.owners.specs.Naming.{Names}
-use Rattle.owners.specs.Claims.{Table, owner, freed, released}
+use Rattle.owners.specs.Claims.{Table, owner}
 use Rattle.owners.specs.Puts.{put_verdict}
 use Rattle.frame.specs.Worlds.{World, Owned, bytes, written, put, reaped, Queued, queued, Act, after, For, Unaltered, Sparing}
 

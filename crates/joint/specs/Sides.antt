@@ -1,5 +1,5 @@
 -- Two links side by side.
-use Rattle.std.specs.Prelude.{◌≡◌, ℕ, ◌-◌, ◌<◌, ◌≤◌, Bool, cond, ◌&&◌, is_some, MatchBool, ◌≢◌, nat_le, nat_lt}
+use Rattle.std.specs.Prelude.{◌≡◌, ℕ, ◌-◌, ◌<◌, Bool, cond, ◌&&◌, is_some, MatchBool, ◌≢◌, nat_le, nat_lt}
 use Rattle.link.specs.Meaning.{Pipe, absent, direction, Gapless}
 
 -- The second link's pipes are numbered after the first's, which has n; past 31 they are absent.

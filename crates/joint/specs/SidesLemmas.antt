@@ -3,7 +3,7 @@ use Rattle.std.specs.Prelude.{◌≡◌, ℕ, ◌-◌, ◌<◌, ◌≤◌, Bool,
 use Rattle.std.proofs.Common.{sym, ap, subst, ◌∙◌, ⊎_elim, arith}
 use Rattle.std.proofs.lemmas.Bool.{cond-true, cond-false, lt-ltb, le-ltb, le-leb, cases_lt}
 use Rattle.std.proofs.lemmas.Bool.Decides.{nat_tests}
-use Rattle.link.specs.Meaning.{Pipe, absent, inward, outward, direction, Only, Gapless}
+use Rattle.link.specs.Meaning.{Pipe, absent, inward, outward, direction, Only}
 use Rattle.link.specs.Terms.{Bounded}
 use Rattle.joint.specs.Sides.{joint, in_second, Routed, Counts, JoinsGapless}
 

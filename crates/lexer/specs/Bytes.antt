@@ -1,5 +1,5 @@
 -- What written bytes say.
-use Rattle.std.specs.Prelude.{ℕ, ◌+◌, ◌*◌, ◌/◌, ◌%◌, Bool, true, false, cond, ◌&&◌, List, [], ◌∷◌, map, length, drop, Some, None, vec_items, codes, Option, ◌==◌, nat_le, slice_index}
+use Rattle.std.specs.Prelude.{ℕ, ◌+◌, ◌*◌, ◌/◌, ◌%◌, cond, ◌&&◌, List, map, length, drop, Some, None, vec_items, codes, Option, ◌==◌, nat_le, slice_index}
 use Rattle.lexer.specs.declared.data.Data.{Data}
 use Rattle.lexer.specs.declared.data.Data.TheVariants.{Written, Generated}
 use Rattle.std.specs.List.{range_with_len}

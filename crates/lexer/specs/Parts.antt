@@ -1,5 +1,5 @@
 -- How a text is cut into lines, words and parts of words.
-use Rattle.std.specs.Prelude.{ℕ, ◌+◌, Bool, true, false, cond, not, ◌||◌, List, [], ◌∷◌, length, take, drop, Some, None, Option, ◌==◌, nat_le}
+use Rattle.std.specs.Prelude.{ℕ, ◌+◌, Bool, cond, not, ◌||◌, List, [], ◌∷◌, length, take, drop, Some, None, Option, ◌==◌, nat_le}
 use Rattle.lexer.specs.declared.parts.Stop.{Stop}
 use Rattle.lexer.specs.declared.parts.Stop.TheVariants.{Colon, Equals, Hash, LineEnd, Blank, Word}
 

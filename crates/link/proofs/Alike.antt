@@ -1,12 +1,11 @@
 -- Every clause keeps a pipe's direction.
-use Rattle.std.proofs.Common.{◌≡◌, ℕ, zero, suc, ◌≤◌, Bool, true, false, cond, ◌⊎◌, List, Some, None, Option, sym, refl, ap, ◌∙◌, subst, inl, inr, arith}
-use Rattle.std.proofs.lemmas.Bool.{cases_eq}
+use Rattle.std.proofs.Common.{◌≡◌, ℕ, Bool, true, false, cond, ◌⊎◌, List, Some, None, Option, sym, refl, ap, ◌∙◌, inl, inr, arith}
 use Rattle.link.specs.declared.term.Window.{Window}
 use Rattle.link.specs.declared.answers.Direction.TheVariants.{Inward, Outward}
 use Rattle.link.specs.declared.answers.PollAnswer.{PollAnswer}
 use Rattle.link.specs.declared.answers.PollAnswer.TheVariants.{Data, NotReady, Stall, Silence}
 use Rattle.link.specs.declared.answers.Collected.{Collected}
-use Rattle.link.specs.Meaning.{In, Out, Pipe, absent, inward, outward, direction, begun, admits, Restarts, Moves, Polls, Fetches, Sends, Keeps, Collects, Only, Gapless}
+use Rattle.link.specs.Meaning.{In, Out, Pipe, absent, inward, outward, direction, begun, admits, Restarts, Moves, Polls, Fetches, Sends, Keeps, Collects, Gapless}
 
 begun_alike : (x : Pipe) (w : Window) → direction (begun x w) ≡ direction x
 begun_alike absent w = refl

@@ -1,9 +1,9 @@
 -- A Restart keeps the bounds of a term: what is left of a text is no larger, and its packets are few at every packet size.
-use Rattle.std.proofs.Common.{◌≡◌, ℕ, zero, suc, ◌+◌, ◌*◌, ◌^◌, ◌<◌, ◌≤◌, Bool, true, false, cond, ltb, List, [], ◌∷◌, length, drop, Some, None, Option, refl, arith, length-drop}
+use Rattle.std.proofs.Common.{◌≡◌, ℕ, zero, suc, ◌≤◌, Bool, true, false, cond, ltb, List, [], ◌∷◌, length, drop, Some, None, Option, arith, length-drop}
 use Rattle.link.specs.declared.term.Window.{Window}
 use Rattle.link.specs.Text.{after, rest}
-use Rattle.link.specs.Meaning.{In, Pipe, absent, inward, outward, unacknowledged, begun}
-use Rattle.link.specs.Terms.{bytes_of, Bounded, InBounds, RestartBounded}
+use Rattle.link.specs.Meaning.{absent, inward, outward, unacknowledged}
+use Rattle.link.specs.Terms.{bytes_of, RestartBounded}
 use Rattle.link.proofs.Cuts.{packets_few}
 
 after_few : (P : ℕ) (ms : List (List ℕ)) → (bytes_of (after P ms) ≤ bytes_of ms) × (length (after P ms) ≤ length ms)

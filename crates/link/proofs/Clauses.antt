@@ -2,7 +2,7 @@
 use Rattle.std.proofs.Common.{ℕ, List, None, refl, inl}
 use Rattle.link.specs.declared.answers.PollAnswer.TheVariants.{Silence, NotReady, Stall}
 use Rattle.link.specs.declared.answers.Collected.TheVariants as collected
-use Rattle.link.specs.Quiet.{Quiet, QuietLawful}
+use Rattle.link.specs.Quiet.{QuietLawful}
 use Rattle.link.specs.Meaning.{Pipe, absent, inward, outward, Polls, Fetches, Sends, Collects}
 
 pub quiet_poll : (p : Pipe) (b : ℕ) → Polls p b Silence p

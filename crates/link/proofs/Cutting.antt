@@ -1,11 +1,11 @@
 -- Cutting keeps the bytes, and packets have the lengths that are said.
-use Rattle.std.proofs.Common.{◌≡◌, ℕ, zero, suc, ◌+◌, ◌-◌, ◌*◌, ◌/◌, ◌%◌, ◌<◌, ◌≤◌, List, [], ◌∷◌, ◌++◌, length, get_or, take, drop, sym, refl, ap, ◌∙◌, ⊎_elim, mul-le-mul_right, mod-lt, add-mul, one-mul, div-add-mod', arith, length-drop, length-take}
-use Rattle.std.specs.List.{range_with_len, flat_map}
+use Rattle.std.proofs.Common.{◌≡◌, ℕ, zero, suc, ◌+◌, ◌*◌, ◌/◌, ◌%◌, ◌<◌, ◌≤◌, List, [], ◌++◌, length, get_or, take, drop, ap, ◌∙◌, ⊎_elim, mul-le-mul_right, mod-lt, add-mul, one-mul, div-add-mod', arith, length-drop, length-take}
+use Rattle.std.specs.List.{flat_map}
 use Rattle.std.proofs.lemmas.List.FromFn.{length-map-range_with_len, get_or-map-range_with_len}
 use Rattle.std.proofs.lemmas.List.{take_all, take-append-drop, append-nil}
 use Rattle.std.proofs.lemmas.Bool.{cases_lt}
 use Rattle.link.specs.Text.{packets}
-use Rattle.link.specs.Cutting.{Cuts, MessagesCut}
+use Rattle.link.specs.Cutting.{MessagesCut}
 use Rattle.link.proofs.Cuts.{packets_short, packets_long}
 
 packet_at : (P : ℕ) (m : List ℕ) (i : ℕ) → i < length m / P + 1 → get_or (packets P m) i [] ≡ take P (drop (i * P) m)

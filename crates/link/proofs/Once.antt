@@ -1,9 +1,9 @@
 -- Each is fixed to one value.
-use Rattle.std.proofs.Common.{◌≡◌, ℕ, ◌+◌, ◌<◌, ◌≤◌, ◌⊎◌, sym, ◌∙◌, inl, inr, arith}
+use Rattle.std.proofs.Common.{sym, ◌∙◌, inl, inr, arith}
 use Rattle.std.proofs.lemmas.Bool.{cases_lt, cases_order}
 use Rattle.window.proofs.Mods.{mod_same}
 use Rattle.link.specs.Once.{AimOnce, MeantOnce}
-use Rattle.link.proofs.Sound.{burst_least, range_twice}
+use Rattle.link.proofs.Sound.{range_twice}
 
 pub aim_once : AimOnce
 aim_once M b k a c x y = elim (cases_order a c) [

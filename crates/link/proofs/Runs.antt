@@ -1,11 +1,11 @@
 -- Along any calls of a link the directions stay, and so does the numbering without gaps.
-use Rattle.std.proofs.Common.{◌≡◌, ℕ, zero, suc, List, Option, sym, refl, ap, ◌∙◌, subst, inl, inr}
+use Rattle.std.proofs.Common.{◌≡◌, ℕ, zero, suc, List, Option, sym, ap, ◌∙◌, subst, inl, inr}
 use Rattle.std.proofs.lemmas.Bool.{cases_eq}
 use Rattle.link.specs.declared.term.Window.{Window}
 use Rattle.link.specs.declared.answers.PollAnswer.{PollAnswer}
 use Rattle.link.specs.declared.answers.Collected.{Collected}
-use Rattle.link.specs.Meaning.{Pipe, direction, Gapless, Only, Restarts, Polls, Fetches, Sends, Collects}
-use Rattle.link.specs.Steps.{Step, restart, poll, fetch, send, collect, Steps, DescribesAlike, StaysGapless}
+use Rattle.link.specs.Meaning.{Pipe, direction, Only, Restarts, Polls, Fetches, Sends, Collects}
+use Rattle.link.specs.Steps.{Step, restart, poll, fetch, send, collect, DescribesAlike, StaysGapless}
 use Rattle.link.proofs.Alike.{restart_alike, poll_alike, fetch_alike, send_alike, collect_alike, alike_gapless}
 
 -- pipe p keeps its direction and the others their meaning, so all keep their directions

@@ -1,5 +1,5 @@
 -- What numbers within their bounds are.
-use Rattle.std.proofs.Common.{◌≡◌, ℕ, ◌*◌, ◌<◌, ◌≤◌, true, arith}
+use Rattle.std.proofs.Common.{◌≡◌, ◌*◌, ◌<◌, ◌≤◌, true, arith}
 use Rattle.std.proofs.lemmas.Bool.Decides.{nat_tests}
 use Rattle.link.specs.declared.term.Window.{Window}
 use Rattle.link.specs.Bounds.{sound}

@@ -1,5 +1,5 @@
 -- A vector with nothing early: the word that asks, from f on, for each offset below the burst.
-use Rattle.std.proofs.Common.{◌≡◌, ℕ, ◌+◌, ◌-◌, ◌*◌, ◌%◌, ◌^◌, ◌<◌, ◌≤◌, min, true, ◌⊎◌, None, sym, refl, ap, ◌∙◌, subst, inl, inr, mod-lt, arith}
+use Rattle.std.proofs.Common.{◌≡◌, ℕ, ◌+◌, ◌-◌, ◌%◌, ◌^◌, ◌<◌, true, None, sym, refl, ap, ◌∙◌, subst, inl, inr, mod-lt, arith}
 use Rattle.std.proofs.lemmas.Nat.{pow_pos}
 use Rattle.std.proofs.lemmas.Bool.{cases_lt}
 use Rattle.window.specs.Numbers.{bit}
@@ -7,7 +7,7 @@ use Rattle.window.specs.Words.{Asks, held, others}
 use Rattle.window.proofs.Bits.{bit_others, bit_past}
 use Rattle.link.specs.declared.term.Window.{Window}
 use Rattle.link.specs.Bounds.{sound}
-use Rattle.link.specs.Meaning.{Vector, Meant, Bit}
+use Rattle.link.specs.Meaning.{Vector, Bit}
 use Rattle.link.proofs.Sound.{burst_most, range_most, range_twice}
 
 module _ (w : Window) (h : sound w ≡ true) where

@@ -1,5 +1,5 @@
 -- The bounds of a term's numbers.
-use Rattle.std.specs.Prelude.{ℕ, ◌*◌, Bool, ◌&&◌, nat_le}
+use Rattle.std.specs.Prelude.{◌*◌, Bool, ◌&&◌, nat_le}
 use Rattle.link.specs.declared.term.Window.{Window}
 
 -- packet size 1 to 3,584, burst 1 to 16, sequence range 2 to 32 and at least twice the burst

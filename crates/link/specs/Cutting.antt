@@ -1,5 +1,5 @@
 -- What cutting a text into packets keeps.
-use Rattle.std.specs.Prelude.{◌≡◌, ℕ, ◌+◌, ◌/◌, ◌%◌, ◌<◌, List, [], ◌++◌, length, drop, slice_index_or}
+use Rattle.std.specs.Prelude.{◌≡◌, ℕ, ◌+◌, ◌/◌, ◌%◌, ◌<◌, List, [], length, drop, slice_index_or}
 use Rattle.std.specs.List.{flat_map}
 use Rattle.link.specs.Text.{packets, text_packets, rest}
 

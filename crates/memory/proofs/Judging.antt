@@ -1,15 +1,13 @@
 -- Loops over entries and pieces: what is left to judge is what was.
-use Rattle.std.proofs.Common.{◌≡◌, ℕ, suc, ◌+◌, ◌-◌, ◌*◌, ◌/◌, ◌%◌, ◌<◌, ◌≤◌, List, [], ◌∷◌, length, get_or, drop, Ok, Err, Result, sym, refl, ap, ◌∙◌, add-one, arith}
+use Rattle.std.proofs.Common.{◌≡◌, ℕ, suc, ◌+◌, ◌-◌, ◌*◌, ◌%◌, ◌<◌, ◌≤◌, List, length, get_or, drop, Ok, Err, sym, ap, ◌∙◌, add-one, arith}
 use Rattle.std.proofs.lemmas.List.{drop_more, drop_all}
 use Rattle.std.proofs.lemmas.Bool.Decides.{nat_tests}
 use Rattle.refusal.specs.declared.reason.Refusal.{Refusal}
 use Rattle.refusal.specs.declared.reason.Refusal.TheVariants.{BadPlace}
-use Rattle.refusal.specs.declared.reason.Spot.{Spot}
 use Rattle.memory.specs.declared.buffer.Buffer.{Buffer}
-use Rattle.memory.specs.declared.buffer.Kind.TheVariants.{Direct, Listed}
 use Rattle.memory.specs.declared.judge.BadEntry.{BadEntry}
 use Rattle.memory.specs.declared.judge.Part.{Part}
-use Rattle.memory.specs.Walk.{entry, page_count}
+use Rattle.memory.specs.Walk.{page_count}
 use Rattle.memory.specs.Judge.{Verdict, list_verdict, and_then, in_entry, entry_verdict, entries_from, in_piece, buffer_verdict, pieces_from}
 
 pub entries_step : (m : List ℕ) (l k n : ℕ) → k < n

@@ -1,16 +1,10 @@
 -- What follows from a buffer that is judged well.
-use Rattle.std.proofs.Common.{◌≡◌, ℕ, zero, suc, ◌+◌, ◌-◌, ◌*◌, ◌/◌, ◌%◌, ◌<◌, ◌≤◌, List, [], ◌∷◌, length, get_or, Ok, Err, Result, sym, refl, ap, ◌∙◌, subst, inl, inr, arith}
-use Rattle.std.proofs.lemmas.Bool.{cases_lt}
-use Rattle.refusal.specs.declared.reason.Refusal.{Refusal}
+use Rattle.std.proofs.Common.{◌≡◌, ℕ, zero, suc, ◌<◌, List, [], ◌∷◌, length, get_or, Ok, Err, refl, subst, arith}
 use Rattle.refusal.specs.declared.reason.Refusal.TheVariants.{BadPlace}
-use Rattle.memory.specs.declared.buffer.Kind.TheVariants.{Direct, Listed}
 use Rattle.memory.specs.declared.buffer.Buffer.{Buffer}
 use Rattle.memory.specs.declared.judge.Part.{Part}
-use Rattle.memory.specs.declared.judge.Part.TheVariants.{Whole, Entry}
-use Rattle.memory.specs.Walk.{entry, offset, page, page_count}
 use Rattle.memory.specs.Judge.{Verdict, and_then, in_piece, buffer_verdict, pieces_from}
 use Rattle.memory.specs.Faults.{Misplaced, no_buffer}
-use Rattle.memory.proofs.Keeping.{page_listed}
 use Rattle.memory.proofs.Telling.{BufferTold, buffer_told}
 
 pub both_ok : {E : Type 0} (r s : Verdict E) → and_then r s ≡ Ok tt → (r ≡ Ok tt) × (s ≡ Ok tt)

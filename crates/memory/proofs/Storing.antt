@@ -1,12 +1,12 @@
 -- Runs of stores and reads within a page, and two of them for a packet.
-use Rattle.std.proofs.Common.{◌≡◌, ℕ, zero, suc, ◌+◌, ◌-◌, ◌*◌, ◌/◌, ◌%◌, ◌<◌, ◌≤◌, min, ◌≢◌, List, [], ◌∷◌, ◌++◌, length, get_or, take, drop, set, replicate, sym, refl, ap, ◌∙◌, inl, inr, le_refl, add-zero, add-suc, suc-add, zero-add, add-one, arith}
-use lib.Seq.{sets, sets-eq, paste}
+use Rattle.std.proofs.Common.{◌≡◌, ℕ, zero, suc, ◌+◌, ◌-◌, ◌/◌, ◌%◌, ◌<◌, ◌≤◌, List, [], ◌∷◌, ◌++◌, length, get_or, take, drop, set, replicate, sym, refl, ap, ◌∙◌, inl, inr, le_refl, add-zero, add-suc, suc-add, zero-add, add-one, arith}
+use lib.Seq.{sets, sets-eq}
 use borrow.Rule.Slice.PartMut.{put_mid, post_of}
 use Rattle.std.proofs.lemmas.Slice.{put_mid-paste}
-use Rattle.std.proofs.lemmas.List.{take_all, set_past, length-set, get_or-set_same, get_or-set_other, length-take-le, length-drop, take-append-drop, take_rest, drop_more, get_or_past, take_at, drop_at, drop_all, append-nil}
+use Rattle.std.proofs.lemmas.List.{take_all, set_past, length-set, length-take-le, length-drop, take-append-drop, drop_more, get_or_past, take_at, drop_at, drop_all, append-nil}
 use Rattle.std.proofs.lemmas.Bool.{cases_lt}
 use Rattle.memory.specs.declared.buffer.Buffer.{Buffer}
-use Rattle.memory.specs.Walk.{entry, walked, offset, page}
+use Rattle.memory.specs.Walk.{offset}
 use Rattle.memory.specs.Store.{stored, gathered, place}
 
 -- a copy into a part is a run of stores

@@ -1,5 +1,5 @@
 -- What the verdicts tell is the first at fault, in the order of naming.
-use Rattle.std.proofs.Common.{◌≡◌, ℕ, zero, suc, ◌+◌, ◌-◌, ◌*◌, ◌/◌, ◌%◌, ◌<◌, ◌≤◌, Bool, true, false, cond, ◌&&◌, ◌||◌, eqb, ltb, leb, ◌≢◌, ◌⊎◌, List, [], ◌∷◌, length, get_or, Ok, Err, Result, sym, refl, ap, ◌∙◌, subst, inl, inr, add-zero, add-suc, suc-add, zero-add, arith}
+use Rattle.std.proofs.Common.{◌≡◌, ℕ, zero, suc, ◌+◌, ◌*◌, ◌/◌, ◌%◌, ◌<◌, ◌≤◌, cond, ◌&&◌, ◌||◌, eqb, ltb, leb, ◌⊎◌, List, [], ◌∷◌, length, get_or, Ok, Err, Result, sym, refl, ap, ◌∙◌, subst, inl, inr, add-zero, add-suc, suc-add, zero-add, arith}
 use Rattle.std.proofs.lemmas.Bool.{cases_lt, cases_eq, lt-ltb, le-ltb, le-leb, lt-leb, eq-eqb, ne_eqb, or_from, or_left, or_right, and_from, and_left, and_right, cond-true, cond-false}
 use Rattle.refusal.specs.declared.reason.Refusal.{Refusal}
 use Rattle.refusal.specs.declared.reason.Refusal.TheVariants.{BadPlace}
@@ -13,7 +13,7 @@ use Rattle.memory.specs.declared.judge.Part.TheVariants.{Whole, Entry}
 use Rattle.memory.specs.Kinds.{each}
 use Rattle.memory.specs.Walk.{entry, page_count}
 use Rattle.memory.specs.Judge.{Verdict, and_then, in_entry, in_piece, spot_of, entry_verdict, entries_from, list_verdict, direct_verdict, buffer_verdict, pieces_from}
-use Rattle.memory.specs.Faults.{Fault, Before, Earlier, Told, Stray, StrayIn, Astray, DirectAstray, ListAstray, Misplaced, MisplacedIn, PlacesTold, no_buffer}
+use Rattle.memory.specs.Faults.{Fault, Before, Earlier, Told, Stray, StrayIn, Astray, ListAstray, Misplaced, MisplacedIn, PlacesTold, no_buffer}
 
 pub entry_decides : (m : List ℕ) (l k : ℕ) → ((entry_verdict m l k ≡ Ok tt) × (Stray m l k → ⊥)) ⊎ ((entry_verdict m l k ≡ Err (record {})) × Stray m l k)
 entry_decides m l k =

@@ -1,5 +1,5 @@
 -- The law of the notice buffer, by induction over the events.
-use Rattle.std.proofs.Common.{◌≡◌, ℕ, zero, suc, ◌+◌, ◌-◌, ◌*◌, ◌/◌, ◌%◌, ◌^◌, ◌<◌, ◌≤◌, min, Bool, true, false, cond, not, ◌&&◌, eqb, ltb, leb, ◌⊎◌, List, [], ◌∷◌, ◌++◌, map, length, take, drop, replicate, Some, None, Option, sym, refl, ap, ◌∙◌, subst, inl, inr, append_assoc, append-nil, mod-lt, arith, length-append, MatchOption}
+use Rattle.std.proofs.Common.{◌≡◌, ℕ, ◌+◌, ◌-◌, ◌*◌, ◌/◌, ◌%◌, ◌^◌, ◌<◌, ◌≤◌, true, false, cond, ◌&&◌, eqb, ltb, leb, List, [], ◌∷◌, ◌++◌, map, length, take, replicate, Some, None, Option, sym, refl, ap, ◌∙◌, subst, inl, inr, append_assoc, append-nil, mod-lt, arith, length-append, MatchOption}
 use native.Mathlib.Nat.{min-eq_left, min-le_right}
 use lib.ListN.{length-replicate}
 use Rattle.std.proofs.lemmas.List.{take_at, map-append}
@@ -8,13 +8,12 @@ use Rattle.refusal.specs.declared.reason.Refusal.{Refusal}
 use Rattle.refusal.specs.Numbers.{number}
 use Rattle.refusal.specs.Chains.{Rises, AllClear, Brought, NoneBelow, judged}
 use Rattle.refusal.proofs.Judging.{smallest}
-use Rattle.ring.specs.declared.Ring.{Ring}
 use Rattle.ring.specs.Rings.{places, count, Avoids, Apart}
 use Rattle.ring.specs.Rings as rings
 use Rattle.ring.proofs.Places.{took, let_go}
 use Rattle.ring.proofs.Apart.{next_avoids, places_apart}
 use Rattle.notices.specs.Blocks.{Notice, block_of, fits, flags, key_number, key_byte, shows, with_block, cleared}
-use Rattle.notices.specs.Boards.{Board, made_board, switched, rules, full, next, filled, refused, answer_by, board_by, oldest, taking_of, taken_of}
+use Rattle.notices.specs.Boards.{Board, made_board, rules, next, filled, refused, answer_by, board_by, oldest, taking_of, taken_of}
 use Rattle.notices.specs.Law.{Event, arrives, takes, switches, after, finally, if_accepted, accepts, accepted, if_taken, gives, given, left, read, EachOnce}
 use Rattle.notices.proofs.Shown.{with_same, with_other, with_length, cleared_other, cleared_length}
 

@@ -1,9 +1,8 @@
 -- What a block shows after another was written or cleared, and what it shows after it was written itself.
-use Rattle.std.proofs.Common.{◌≡◌, ℕ, zero, suc, ◌+◌, ◌-◌, ◌*◌, ◌/◌, ◌%◌, ◌^◌, ◌<◌, ◌≤◌, min, Bool, true, false, cond, ◌⊎◌, List, [], ◌∷◌, ◌++◌, length, get_or, take, drop, set, sym, refl, ap, ◌∙◌, inl, inr, append_assoc, arith, length-append, length-drop, length-set}
-use native.Mathlib.Nat.{min-eq_left}
+use Rattle.std.proofs.Common.{◌≡◌, ℕ, ◌+◌, ◌-◌, ◌*◌, ◌%◌, ◌<◌, ◌≤◌, true, List, ◌++◌, length, get_or, take, drop, set, sym, ap, ◌∙◌, inl, inr, append_assoc, arith, length-append, length-drop, length-set}
 use lib.Seq.{drop-append-add}
 use Rattle.std.proofs.lemmas.List.{take-append-drop, length-take-le, take_at, drop_at, take-append-le, drop-append-le, drop-drop, take-set-le, drop-set-lt, drop-set-add}
-use Rattle.std.proofs.lemmas.Bool.{cond-true, cond_both, le-leb, cases_order}
+use Rattle.std.proofs.lemmas.Bool.{cond-true, le-leb, cases_order}
 use Rattle.notices.specs.Blocks.{inside, shows, with_block, cleared}
 
 -- a front of a list shows what the list shows there

@@ -1,5 +1,5 @@
 -- What a notice looks like in its block of 64 bytes, and how a block is read.
-use Rattle.std.specs.Prelude.{ℕ, ◌+◌, ◌-◌, ◌*◌, ◌/◌, ◌%◌, ◌^◌, Bool, true, false, cond, ◌&&◌, List, [], ◌∷◌, ◌++◌, length, take, drop, replicate, Some, None, Option, nat_le, nat_lt, slice_index, slice_set}
+use Rattle.std.specs.Prelude.{ℕ, ◌+◌, ◌-◌, ◌*◌, ◌/◌, ◌%◌, ◌^◌, Bool, cond, ◌&&◌, List, ◌∷◌, ◌++◌, length, take, drop, replicate, Some, None, Option, nat_le, nat_lt, slice_index, slice_set}
 use Rattle.std.specs.Option.{unwrap_or}
 
 -- a notice: where it comes from, the key if it is secure, and its bytes

@@ -1,6 +1,7 @@
 //! The bounds of notices, and the wrap of the blocks.
 use notices::Notices;
 use refusal::{Party, Refusal, Spot};
+use std::process::Abort;
 use std::test::*;
 
 // Bytes for notices.
@@ -51,12 +52,12 @@ fn done(notices: &mut Notices, act: Act) -> usize {
 }
 
 // Does one thing after another on a new buffer, and compares.
-fn compared(rt: HostRuntime, acts: &[(Act, usize)]) -> Result<(), Fail> {
+fn compared(rt: &(impl Abort + Alloc), acts: &[(Act, usize)]) -> Result<(), Fail> {
     let mut buffer = vec![in rt.alloc(); 7u8; 4096]?;
     match Notices::new(buffer.as_mut_slice()) {
         Ok(mut notices) => {
             for (act, expected) in acts {
-                assert_eq!(done(&mut notices, *act), *expected);
+                assert_eq!(rt; done(&mut notices, *act), *expected);
             }
             Ok(())
         }
@@ -80,7 +81,7 @@ fn sizes_of_the_lent_buffer(rt: HostRuntime) -> Result<(), Fail> {
     assert!(rt; Notices::new(short.as_mut_slice()).is_err());
     assert!(rt; Notices::new(long.as_mut_slice()).is_err());
     compared(
-        rt,
+        &rt,
         &[
             (Act::Byte(0, 0), 0),
             (Act::Byte(63, 63), 0),
@@ -93,7 +94,7 @@ fn sizes_of_the_lent_buffer(rt: HostRuntime) -> Result<(), Fail> {
 #[test]
 fn sizes_and_keys_of_notices(rt: HostRuntime) -> Result<(), Fail> {
     compared(
-        rt,
+        &rt,
         &[
             (Act::Arrive(1, None, 0), 114),
             (Act::Arrive(1, None, 1), 115),

@@ -1,12 +1,12 @@
 -- Claims of namings, one after another.
-use Rattle.std.proofs.Common.{◌≡◌, ℕ, zero, suc, ◌+◌, ◌-◌, ◌<◌, ◌≤◌, List, [], ◌∷◌, ◌++◌, length, get_or, drop, set, Some, None, Ok, Err, Option, Result, sym, refl, ap, ◌∙◌, subst, add-zero, add-suc, suc-add, zero-add, add-one, arith}
+use Rattle.std.proofs.Common.{◌≡◌, ℕ, zero, suc, ◌+◌, ◌-◌, ◌<◌, ◌≤◌, List, [], ◌∷◌, ◌++◌, get_or, set, Some, None, Ok, Err, Result, sym, refl, ap, ◌∙◌, add-zero, zero-add, add-one, arith}
 use Rattle.refusal.specs.declared.reason.Refusal.{Refusal}
 use Rattle.refusal.specs.declared.reason.Refusal.TheVariants.{PageTaken}
 use Rattle.memory.specs.declared.buffer.Buffer.{Buffer}
 use Rattle.memory.specs.Judge.{spot_of}
 use Rattle.memory.specs.Faults.{Fault}
 use Rattle.owners.specs.declared.table.Owner.{Owner}
-use Rattle.owners.specs.Naming.{Naming, part_of, names, named, buffer_namings}
+use Rattle.owners.specs.Naming.{Naming, part_of, named, buffer_namings}
 use Rattle.owners.specs.Claims.{Table, next, take_page, claimed}
 
 abbrev pub Claim : Type 0

@@ -1,16 +1,15 @@
 -- What a buffer names, by its kind.
-use Rattle.std.proofs.Common.{◌≡◌, ℕ, zero, suc, ◌+◌, ◌-◌, ◌*◌, ◌/◌, ◌%◌, ◌<◌, ◌≤◌, cond, eqb, ◌⊎◌, List, [], ◌∷◌, length, get_or, Ok, Err, sym, refl, ap, ◌∙◌, subst, inl, inr, arith}
+use Rattle.std.proofs.Common.{◌≡◌, ℕ, ◌+◌, ◌-◌, ◌*◌, ◌/◌, ◌%◌, ◌<◌, ◌≤◌, cond, eqb, ◌⊎◌, List, length, Ok, sym, refl, ap, ◌∙◌, subst, inl, inr, arith}
 use Rattle.std.proofs.lemmas.Bool.{cases_lt, cases_eq, eq-eqb, ne_eqb, cond-true, cond-false}
 use Rattle.memory.specs.declared.buffer.Kind.{Kind}
 use Rattle.memory.specs.declared.buffer.Kind.TheVariants.{Direct, Listed}
 use Rattle.memory.specs.declared.buffer.Buffer.{Buffer}
-use Rattle.memory.specs.declared.judge.Part.{Part}
 use Rattle.memory.specs.declared.judge.Part.TheVariants.{Whole, Entry}
 use Rattle.memory.specs.Kinds.{each}
 use Rattle.memory.specs.Walk.{entry, offset, page, page_count}
 use Rattle.memory.specs.Judge.{buffer_verdict}
-use Rattle.memory.specs.Faults.{Misplaced, Astray, StrayIn, DirectAstray, ListAstray, Stray}
-use Rattle.memory.proofs.Keeping.{offset_listed, page_listed}
+use Rattle.memory.specs.Faults.{Astray, StrayIn, DirectAstray, ListAstray, Stray}
+use Rattle.memory.proofs.Keeping.{page_listed}
 use Rattle.memory.proofs.Placed.{not_misplaced}
 use Rattle.owners.specs.Naming.{names, named, part_of}
 

@@ -1,9 +1,9 @@
 -- Pieces' namings stand in order, so what a claim tells is the first at fault.
-use Rattle.std.proofs.Common.{◌≡◌, ℕ, zero, suc, ◌+◌, ◌-◌, ◌/◌, ◌%◌, ◌<◌, ◌≤◌, ◌≢◌, ◌⊎◌, List, [], ◌∷◌, ◌++◌, length, get_or, set, Ok, Err, Result, sym, refl, ap, ◌∙◌, subst, inl, inr, add-zero, add-suc, suc-add, zero-add, arith}
+use Rattle.std.proofs.Common.{◌≡◌, ℕ, zero, suc, ◌+◌, ◌-◌, ◌/◌, ◌%◌, ◌<◌, ◌≤◌, ◌⊎◌, List, [], ◌∷◌, ◌++◌, length, get_or, Ok, Err, Result, sym, refl, ap, ◌∙◌, subst, inl, inr, add-zero, zero-add, arith}
 use Rattle.std.proofs.lemmas.Bool.{cases_eq}
 use Rattle.refusal.specs.declared.reason.Refusal.{Refusal}
 use Rattle.refusal.specs.declared.reason.Refusal.TheVariants.{PageTaken}
-use Rattle.memory.specs.declared.buffer.Kind.TheVariants.{Direct, Listed}
+use Rattle.memory.specs.declared.buffer.Kind.TheVariants.{Listed}
 use Rattle.memory.specs.declared.buffer.Buffer.{Buffer}
 use Rattle.memory.specs.declared.judge.Part.{Part}
 use Rattle.memory.specs.declared.judge.Part.TheVariants.{Whole, Entry}
@@ -11,11 +11,10 @@ use Rattle.memory.specs.Judge.{pieces_from}
 use Rattle.memory.specs.Faults.{Fault, Before, Earlier, Told, no_buffer}
 use Rattle.memory.proofs.Telling.{told_like, told_once}
 use Rattle.memory.proofs.Placed.{judged_each}
-use Rattle.owners.specs.declared.table.Owner.{Owner}
 use Rattle.owners.specs.Naming.{Naming, names, named, part_of, buffer_namings, namings}
-use Rattle.owners.specs.Claims.{Table, claim, claimed, answer, slot_owner}
+use Rattle.owners.specs.Claims.{Table, claim, answer, slot_owner}
 use Rattle.owners.specs.Taken.{NamedIn, TakenIn, PagesTold}
-use Rattle.owners.proofs.Chaining.{Claim, naming_at}
+use Rattle.owners.proofs.Chaining.{Claim}
 use Rattle.owners.proofs.Ordering.{In, Ordered, TakenOf, all_told}
 use Rattle.owners.proofs.Known.{kinds, page_direct, named_direct, part_direct, part_list, part_entry, named_inside}
 

@@ -1,9 +1,9 @@
 -- Claims of a transfer's pieces, one after another, and their undoing.
-use Rattle.std.proofs.Common.{◌≡◌, ℕ, zero, suc, ◌+◌, ◌-◌, ◌%◌, ◌<◌, ◌≤◌, List, [], ◌∷◌, ◌++◌, length, get_or, drop, set, Some, None, Ok, Err, Option, Result, sym, refl, ap, ◌∙◌, subst, add-zero, add-suc, suc-add, zero-add, add-one, arith}
+use Rattle.std.proofs.Common.{◌≡◌, ℕ, zero, suc, ◌+◌, ◌-◌, ◌%◌, ◌<◌, ◌≤◌, List, [], ◌++◌, length, get_or, drop, Ok, Err, Result, sym, refl, ap, ◌∙◌, add-one, arith}
 use Rattle.std.proofs.lemmas.List.{drop_more, drop_all}
 use Rattle.refusal.specs.declared.reason.Refusal.{Refusal}
 use Rattle.memory.specs.declared.buffer.Buffer.{Buffer}
-use Rattle.memory.specs.Faults.{Fault, no_buffer}
+use Rattle.memory.specs.Faults.{no_buffer}
 use Rattle.owners.specs.declared.table.Owner.{Owner}
 use Rattle.owners.specs.Naming.{Naming, named, names, buffer_namings, namings}
 use Rattle.owners.specs.Claims.{Table, next, take_page, claimed, claim_buffer, claim, answer, after, owner, slot_owner, unclaimed, unclaimed_all}

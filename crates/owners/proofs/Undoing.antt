@@ -1,11 +1,10 @@
 -- Taking back what was claimed gives the table that was.
-use Rattle.std.proofs.Common.{◌≡◌, ℕ, zero, suc, ◌+◌, ◌-◌, ◌<◌, ◌≤◌, List, [], ◌∷◌, ◌++◌, length, get_or, set, Some, None, Ok, Err, Option, Result, sym, refl, ap, ◌∙◌, subst, add-zero, add-suc, suc-add, zero-add, arith}
+use Rattle.std.proofs.Common.{◌≡◌, ℕ, zero, suc, ◌-◌, ◌<◌, ◌≤◌, List, [], ◌∷◌, ◌++◌, get_or, set, Some, None, Ok, Err, Option, sym, refl, ap, ◌∙◌, zero-add, arith}
 use Rattle.std.proofs.lemmas.List.{set-set, set-get_or}
-use Rattle.refusal.specs.declared.reason.Refusal.{Refusal}
 use Rattle.memory.specs.declared.buffer.Buffer.{Buffer}
 use Rattle.memory.specs.Faults.{Fault}
 use Rattle.owners.specs.declared.table.Owner.{Owner}
-use Rattle.owners.specs.Naming.{Naming, named, names, buffer_namings}
+use Rattle.owners.specs.Naming.{named, buffer_namings}
 use Rattle.owners.specs.Claims.{Table, next, take_page, claimed, unclaimed}
 use Rattle.owners.proofs.Chaining.{Claim, claimed_append, take_free, take_owned, naming_at, namings_last, next_id}
 

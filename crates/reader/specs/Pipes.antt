@@ -1,12 +1,11 @@
 -- The reader's polls and fetches, on its one pipe.
-use Rattle.std.specs.Prelude.{◌≡◌, ℕ, zero, suc, ◌+◌, ◌-◌, ◌*◌, ◌/◌, ◌^◌, ◌<◌, ◌≤◌, min, Bool, true, false, cond, ◌⊎◌, List, [], ◌∷◌, ◌++◌, map, length, take, drop, Some, None, Option, ◌≢◌, nat_lt, refl}
+use Rattle.std.specs.Prelude.{◌≡◌, ℕ, zero, suc, ◌+◌, ◌-◌, ◌*◌, ◌^◌, ◌<◌, ◌≤◌, min, Bool, true, false, cond, List, [], ◌∷◌, length, take, drop, Some, None, Option, ◌≢◌, nat_lt, refl}
 use Rattle.std.proofs.Common.{sym, ap, subst, ◌∙◌, ⊎_elim, inl, inr, arith, length-drop, length-take}
 use Rattle.std.proofs.lemmas.List.{drop-drop, drop-take, take-take, take_all}
 use Rattle.std.proofs.lemmas.Bool.{cond-true, cond-false, lt-ltb, le-ltb, cases_lt}
-use Rattle.std.proofs.lemmas.Bool.Decides.{nat_tests}
 use Rattle.link.specs.Bounds.{sound}
-use Rattle.link.specs.Text.{after, rest, text_packets}
-use Rattle.link.specs.Meaning.{In, Pipe, absent, inward, Aim, Bit, Allowed, unacknowledged, moved, count, solo, Polls, Fetches, Restarts, Only, Moves, MayGive, Sends, Collects}
+use Rattle.link.specs.Text.{rest, text_packets}
+use Rattle.link.specs.Meaning.{In, Pipe, absent, inward, Aim, Allowed, unacknowledged, moved, count, solo, Polls, Fetches, Restarts, Only, Moves, MayGive, Sends, Collects}
 use Rattle.link.specs.Terms.{total, bytes_of, InBounds, Bounded}
 use Rattle.link.proofs.Sound.{sized}
 use Rattle.link.proofs.Solo.{only_zero, only_same, still_absent, bounds_one}
@@ -14,8 +13,8 @@ use Rattle.link.specs.declared.answers.Collected.{Collected}
 use Rattle.link.specs.declared.answers.Collected.TheVariants as collected
 use Rattle.link.specs.declared.term.Window.{Window}
 use Rattle.link.specs.declared.answers.PollAnswer.{PollAnswer}
-use Rattle.link.specs.declared.answers.PollAnswer.TheVariants.{Data, NotReady, Stall, Silence}
-use Rattle.link.proofs.Cuts.{none_left, some_left, one_left, rest_add, count_rest, none_allowed, beyond_allowed, is_allowed, packets_few}
+use Rattle.link.specs.declared.answers.PollAnswer.TheVariants.{Data, NotReady, Silence}
+use Rattle.link.proofs.Cuts.{none_left, some_left, rest_add, count_rest, none_allowed, beyond_allowed, is_allowed, packets_few}
 use Rattle.reader.specs.declared.cursor.Cursor.{Cursor}
 use Rattle.reader.specs.declared.seek.Sought.{Sought}
 use Rattle.reader.specs.Reading.{text_at, Stands, messages, less, pipe_at}

@@ -1,5 +1,5 @@
 -- What a seek finds.
-use Rattle.std.specs.Prelude.{◌≡◌, ℕ, ◌+◌, ◌-◌, ◌<◌, ◌≤◌, List, [], ◌∷◌, length}
+use Rattle.std.specs.Prelude.{◌≡◌, ℕ, ◌+◌, ◌-◌, ◌<◌, ◌≤◌, List, [], length}
 use Rattle.link.specs.Text.{rest, text_packets}
 use Rattle.link.specs.Meaning.{Aim}
 use Rattle.reader.specs.declared.seek.Sought.{Sought}

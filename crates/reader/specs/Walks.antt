@@ -1,6 +1,6 @@
 -- How a cursor goes through its text.
-use Rattle.std.specs.Prelude.{◌≡◌, ℕ, zero, suc, ◌+◌, ◌-◌, ◌*◌, ◌/◌, ◌%◌, ◌<◌, ◌≤◌, min, Bool, true, false, cond, List, [], ◌∷◌, ◌++◌, map, length, take, drop, ◌≢◌, nat_lt, slice_index, refl}
-use Rattle.std.proofs.Common.{sym, ap, subst, ◌∙◌, ⊎_elim, arith, length-drop, length-take, add-one, take-add, zero-le}
+use Rattle.std.specs.Prelude.{◌≡◌, ℕ, suc, ◌+◌, ◌-◌, ◌%◌, ◌<◌, ◌≤◌, min, List, [], ◌∷◌, ◌++◌, length, take, drop, ◌≢◌, nat_lt, slice_index, refl}
+use Rattle.std.proofs.Common.{sym, ap, subst, ◌∙◌, ⊎_elim, arith, length-drop, add-one, take-add, zero-le}
 use Rattle.std.proofs.lemmas.List.{drop-drop, drop_all, take_all, drop_more, drop-take, length-take-le}
 use Rattle.std.proofs.lemmas.Bool.{cond-true, cond-false, lt-ltb, le-ltb, cases_lt}
 use Rattle.std.proofs.Math.Nat.{add-mod-mod}
@@ -8,7 +8,7 @@ use Rattle.std.proofs.lemmas.Nat.{mod_below}
 use Rattle.reader.specs.Bytes.{flat, sum_of}
 use Rattle.link.specs.Text.{after, rest, text_packets}
 use Rattle.link.proofs.Cuts.{some_left}
-use Rattle.link.specs.Meaning.{Aim, Bit}
+use Rattle.link.specs.Meaning.{Bit}
 use Rattle.reader.specs.declared.seek.Sought.{Sought}
 use Rattle.reader.specs.Seeking.{Found, Missing}
 use Rattle.reader.specs.declared.cursor.Cursor.{Cursor}

@@ -2,7 +2,7 @@
 use Rattle.refusal.specs.declared.reason.Refusal.{Refusal}
 use Rattle.refusal.specs.declared.reason.Refusal.TheVariants.{WrongSize, NoSuchSet, WrongState, PipeUnavailable, EndpointNumbers, PieceCount, SlotsShort, BadPlace, PageTaken, NothingThere, BadPermit, Unreaped, BadSlot, BadNotice, NoticesOff, NoticesFull, ImageSize}
 use Rattle.refusal.specs.declared.reason.Spot.{Spot}
-use Rattle.refusal.specs.declared.reason.Spot.TheVariants.{Call, Piece, Entry}
+use Rattle.refusal.specs.declared.reason.Spot.TheVariants.{Call}
 
 abbrev pub spot : Refusal → Spot
 spot WrongSize = Call

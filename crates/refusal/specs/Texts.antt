@@ -1,5 +1,5 @@
 -- What people read of a refusal: "refused", its number, the piece and entry where it names them, and its condition in words.
-use Rattle.std.specs.Prelude.{ℕ, List, [], ◌∷◌, ◌++◌, codes, decimal}
+use Rattle.std.specs.Prelude.{ℕ, List, [], ◌++◌, codes, decimal}
 use Rattle.refusal.specs.declared.reason.Refusal.{Refusal}
 use Rattle.refusal.specs.declared.reason.Refusal.TheVariants.{WrongSize, NoSuchSet, WrongState, PipeUnavailable, EndpointNumbers, PieceCount, SlotsShort, BadPlace, PageTaken, NothingThere, BadPermit, Unreaped, BadSlot, BadNotice, NoticesOff, NoticesFull, ImageSize}
 use Rattle.refusal.specs.declared.reason.Spot.{Spot}

@@ -1,11 +1,11 @@
 -- Bits of numbers: after shifts, masks, sums and a turn within M bits; and trailing zeros by bits.
-use Rattle.std.proofs.Common.{◌≡◌, ℕ, zero, suc, ◌+◌, ◌-◌, ◌*◌, ◌/◌, ◌%◌, ◌^◌, ◌<◌, ◌≤◌, min, ◌⊎◌, sym, refl, ap, ◌∙◌, subst, inl, inr, add-zero, mod-lt, mod-eq_of_lt, add_comm, pow-suc, div-one, add-one, one-add, arith, pow_mono}
-use native.Mathlib.Nat.{div-eq_of_lt, add-mod-mod, mod-add-mod, mul-add-mod_self_right, add-mod_right, zero-mod, mod-eq-sub-mod}
+use Rattle.std.proofs.Common.{◌≡◌, ℕ, zero, suc, ◌+◌, ◌-◌, ◌*◌, ◌/◌, ◌%◌, ◌^◌, ◌<◌, ◌≤◌, min, ◌⊎◌, sym, refl, ap, ◌∙◌, inl, inr, mod-eq_of_lt, add_comm, pow-suc, div-one, one-add, arith, pow_mono}
+use native.Mathlib.Nat.{div-eq_of_lt, mul-add-mod_self_right, mod-eq-sub-mod}
 use lib.Pow.{mod-mod-pow}
 use lib.Count.{count_trailing_zeros, under}
 use lib.Bits.{bit_and, bit_or, or_shifted_r, and_mask}
-use Rattle.std.proofs.lemmas.Nat.{pow-add, mul-add-lt, one_shl, shl_whole, shr-shr, shr_high, shr_split, field_of, pow_pos, mod_below, shr_below}
-use Rattle.std.proofs.lemmas.Bool.{cases_lt, cases_order}
+use Rattle.std.proofs.lemmas.Nat.{pow-add, mul-add-lt, one_shl, shl_whole, shr-shr, shr_high, field_of, pow_pos, mod_below, shr_below}
+use Rattle.std.proofs.lemmas.Bool.{cases_lt}
 use Rattle.window.specs.Numbers.{bit}
 use Rattle.window.specs.Words.{swung, others}
 

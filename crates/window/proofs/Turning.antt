@@ -1,5 +1,5 @@
 -- A turned word, the word that asks, and the way to the first set bit, by bits.
-use Rattle.std.proofs.Common.{◌≡◌, ℕ, zero, suc, ◌+◌, ◌-◌, ◌*◌, ◌/◌, ◌%◌, ◌^◌, ◌<◌, ◌≤◌, min, ◌⊎◌, ◌↔◌, sym, refl, ap, ◌∙◌, inl, inr, add-zero, mod-lt, mod-eq_of_lt, add_comm, div-one, arith, pow_mono}
+use Rattle.std.proofs.Common.{◌≡◌, ℕ, zero, suc, ◌+◌, ◌-◌, ◌*◌, ◌/◌, ◌%◌, ◌^◌, ◌<◌, ◌≤◌, min, sym, ap, ◌∙◌, inl, inr, mod-lt, mod-eq_of_lt, add_comm, div-one, arith, pow_mono}
 use native.Mathlib.Nat.{add-mod-mod, mod-add-mod, add-mod_right, min_comm, zero-mod}
 use lib.Count.{count_trailing_zeros}
 use lib.Bits.{bit_or, or_shifted_r}

@@ -1,9 +1,9 @@
 -- The two facts about wrapping numbers.
-use Rattle.std.proofs.Common.{◌≡◌, ℕ, ◌+◌, ◌-◌, ◌*◌, ◌/◌, ◌%◌, ◌^◌, ◌<◌, ◌≤◌, ◌⊎◌, ◌↔◌, List, None, Option, sym, refl, ap, ◌∙◌, inl, inr, add-zero, mod-lt, arith}
+use Rattle.std.proofs.Common.{◌≡◌, ℕ, ◌+◌, ◌-◌, ◌/◌, ◌%◌, ◌^◌, ◌<◌, ◌≤◌, ◌↔◌, None, sym, refl, ap, ◌∙◌, inl, inr, add-zero, arith}
 use native.Mathlib.Nat.{mod-mod}
 use lib.Count.{count_trailing_zeros}
 use Rattle.std.proofs.lemmas.Bool.{cases_order, cases_lt}
-use Rattle.window.specs.Numbers.{bit, Bit, Aim, Meant, Vector}
+use Rattle.window.specs.Numbers.{bit, Bit, Aim}
 use Rattle.window.specs.Words.{swung, others, turned, asked, ahead, shown, Asks, Shows}
 use Rattle.window.specs.Wrap.{PollsAim, VectorsTell, NumbersCount}
 use Rattle.window.proofs.Bits.{bit_cases, trailing_is}

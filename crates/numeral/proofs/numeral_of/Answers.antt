@@ -1,8 +1,7 @@
 -- Each way out of the loop, by what was read.
-use Rattle.std.proofs.Common.{◌≡◌, ◌+◌, ◌*◌, ◌^◌, ◌<◌, ◌≤◌, ◌⊎◌, [], length, get_or, drop, sym, ap, ◌∙◌, inl, inr, arith}
+use Rattle.std.proofs.Common.{◌+◌, ◌*◌, ◌^◌, arith}
 use Rattle.std.proofs.lemmas.List.{drop_all}
 use Rattle.std.proofs.lemmas.Bool.{cases_lt}
-use Rattle.numeral.specs.Numbers.{digit}
 use Rattle.numeral.proofs.Values.{read_digit, no_digit, too_large, read_all}
 use Rattle.numeral.proofs.numeral_of.Goals as goal
 

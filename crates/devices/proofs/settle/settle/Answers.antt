@@ -1,10 +1,10 @@
 -- Each early packet that follows is taken, in its turn.
-use Rattle.std.proofs.Common.{◌≡◌, ℕ, ◌+◌, ◌-◌, ◌*◌, ◌%◌, ◌<◌, ◌≤◌, min, List, length, take, drop, Some, None, vec_items, vec_len, sym, refl, ap, ◌∙◌, subst, arith, length-take}
+use Rattle.std.proofs.Common.{◌≡◌, ℕ, ◌+◌, ◌*◌, ◌%◌, ◌≤◌, List, length, drop, Some, None, vec_items, vec_len, sym, refl, ap, ◌∙◌, subst, arith, length-take}
 use Rattle.devices.specs.Taken.{cut}
 use Rattle.devices.specs.Early.{lookup, length_of, part}
 use Rattle.devices.specs.declared.store.Store.{Store}
 use Rattle.devices.specs.Cutting.{length_cut}
-use Rattle.devices.specs.Going.{Going, going_none, going_more, going_all, spaced_more, found_at, missing_at, past_free}
+use Rattle.devices.specs.Going.{going_none, going_more, going_all, spaced_more, found_at, missing_at, past_free}
 use Rattle.devices.proofs.settle.settle.Goals as goal
 
 counts : (s : Store) → vec_len s.lengths ≡ length (cut (vec_items s.bytes) (vec_items s.lengths))

@@ -1,5 +1,5 @@
 -- What is taken so far, and that the early packets still have space.
-use Rattle.std.proofs.Common.{◌≡◌, ℕ, ◌-◌, ◌≤◌, vec_items, vec_len}
+use Rattle.std.proofs.Common.{◌≡◌, ◌-◌, ◌≤◌, vec_items, vec_len}
 use Rattle.devices.specs.Early.{Spaced, lookup}
 use Rattle.devices.specs.Taken.{cut}
 use Rattle.devices.specs.Going.{Going}

@@ -1,5 +1,5 @@
 -- Each entry judged, the rest tells what all do; a list in its place is judged by its entries.
-use Rattle.std.proofs.Common.{◌≡◌, sym, ap, ◌∙◌, arith}
+use Rattle.std.proofs.Common.{◌∙◌, arith}
 use Rattle.std.proofs.lemmas.Result.{err_from_is_err_and}
 use Rattle.memory.proofs.Judging.{entries_ok, entries_err, list_judged}
 use Rattle.memory.proofs.judge.judge_list.Goals as goal

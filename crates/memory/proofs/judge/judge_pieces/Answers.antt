@@ -1,5 +1,5 @@
 -- Each piece judged, the rest tells what all do; what is told is the first at fault.
-use Rattle.std.proofs.Common.{◌≡◌, ℕ, List, sym, ap, ◌∙◌, subst, arith}
+use Rattle.std.proofs.Common.{◌≡◌, ℕ, List, sym, ◌∙◌, subst}
 use Rattle.std.proofs.lemmas.Result.{err_from_is_err_and}
 use Rattle.refusal.specs.declared.reason.Refusal.{Refusal}
 use Rattle.memory.specs.declared.buffer.Buffer.{Buffer}

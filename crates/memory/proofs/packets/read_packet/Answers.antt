@@ -1,5 +1,5 @@
 -- A packet's two reads, side by side, are what the buffer shows.
-use Rattle.std.proofs.Common.{◌≡◌, ◌+◌, ◌-◌, ◌*◌, ◌%◌, ◌≤◌, length, take, drop, sym, refl, ap, ◌∙◌, arith}
+use Rattle.std.proofs.Common.{◌≡◌, ◌+◌, ◌-◌, ◌*◌, ◌%◌, length, sym, refl, ap, ◌∙◌, arith}
 use Rattle.memory.specs.Walk.{offset}
 use Rattle.memory.specs.Store.{gathered, place}
 use Rattle.memory.proofs.Storing.{two_reads, two_parts}

@@ -1,6 +1,5 @@
 -- What is read within a page is what stands there, and zeros past the end of memory.
-use Rattle.std.proofs.Common.{◌≡◌, ◌+◌, ◌-◌, ◌*◌, ◌++◌, length, take, drop, replicate, sym, refl, ap, ◌∙◌, arith}
-use native.Mathlib.Nat.{sub-zero}
+use Rattle.std.proofs.Common.{◌≡◌, ◌+◌, ◌-◌, ◌*◌, length, take, drop, replicate, sym, refl, ap, ◌∙◌, arith}
 use Rattle.memory.proofs.Storing.{gathered_past, gathered_cut, two_parts}
 use Rattle.memory.proofs.packets.read_run.Goals as goal
 

@@ -1,7 +1,6 @@
 -- A copy within a page is a run of stores; past the end of memory nothing is stored.
-use Rattle.std.proofs.Common.{◌≡◌, ◌+◌, ◌-◌, ◌*◌, length, take, sym, ap, ◌∙◌, arith}
+use Rattle.std.proofs.Common.{◌≡◌, ◌+◌, ◌*◌, length, take, sym, ◌∙◌, arith}
 use native.Mathlib.Nat.{sub-zero}
-use lib.Seq.{sets}
 use Rattle.std.proofs.lemmas.List.{length-take-le}
 use Rattle.memory.proofs.Storing.{put_mid_sets, sets_past, sets_cut}
 use Rattle.memory.proofs.packets.write_run.Goals as goal

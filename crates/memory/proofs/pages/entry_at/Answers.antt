@@ -1,5 +1,5 @@
 -- An entry is read where it lies in its page of memory.
-use Rattle.std.proofs.Common.{◌≡◌, ℕ, ◌+◌, ◌*◌, ◌/◌, ◌%◌, sym, ap, ◌∙◌, arith}
+use Rattle.std.proofs.Common.{ℕ, ◌/◌, ◌%◌, sym, ap, ◌∙◌, arith}
 use Rattle.memory.proofs.Entries.{entry_inside, entry_past, entry_outside}
 use Rattle.memory.proofs.pages.entry_at.Goals as goal
 

@@ -1,6 +1,5 @@
 -- The offset of a buffer is below a page's size, so the sums fit and the page is the one reached.
-use Rattle.std.proofs.Common.{◌≡◌, ℕ, ◌+◌, ◌*◌, ◌/◌, ◌%◌, sym, ap, ◌∙◌, arith}
-use Rattle.memory.specs.Walk.{offset, page}
+use Rattle.std.proofs.Common.{arith}
 use Rattle.memory.proofs.Entries.{offset_below, walk_reaches}
 use Rattle.memory.proofs.pages.walk.Goals as goal
 

@@ -1,5 +1,5 @@
 -- A page that has an owner is told, and what was claimed is taken back; a free one is claimed.
-use Rattle.std.proofs.Common.{◌≡◌, ℕ, ◌+◌, ◌-◌, get_or, set, Some, None, Ok, Err, sym, ap, ◌∙◌, arith}
+use Rattle.std.proofs.Common.{◌≡◌, ℕ, ◌+◌, ◌-◌, get_or, set, Some, None, Ok, Err, sym, ap, ◌∙◌}
 use Rattle.refusal.specs.declared.reason.Refusal.TheVariants.{PageTaken}
 use Rattle.memory.specs.Judge.{spot_of}
 use Rattle.owners.specs.declared.table.Owner.{Owner}

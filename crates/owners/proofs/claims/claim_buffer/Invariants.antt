@@ -1,5 +1,5 @@
 -- What is claimed so far, and that what is left to claim decides.
-use Rattle.std.proofs.Common.{◌≡◌, ℕ, ◌-◌, Ok}
+use Rattle.std.proofs.Common.{◌≡◌, ◌-◌, Ok}
 use Rattle.owners.specs.Naming.{buffer_namings}
 use Rattle.owners.specs.Claims.{claimed}
 use Rattle.owners.proofs.claims.claim_buffer.Given as goal

@@ -1,5 +1,5 @@
 -- A piece that is refused has the earlier ones taken back; one that is claimed leaves the rest.
-use Rattle.std.proofs.Common.{◌≡◌, Ok, Err, sym, ap, ◌∙◌}
+use Rattle.std.proofs.Common.{◌≡◌, Ok, sym, ap, ◌∙◌}
 use Rattle.owners.specs.Claims.{claim, answer, after, slot_owner}
 use Rattle.owners.proofs.Transfers.{claim_goes, claim_fails, pieces_none}
 use Rattle.owners.proofs.claims.claim_pieces.Goals as goal

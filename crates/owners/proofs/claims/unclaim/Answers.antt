@@ -1,5 +1,5 @@
 -- Each naming taken back leaves the earlier ones to take back.
-use Rattle.std.proofs.Common.{◌≡◌, ◌∙◌, arith}
+use Rattle.std.proofs.Common.{◌∙◌, arith}
 use Rattle.owners.proofs.Undoing.{unclaim_step, unclaim_none}
 use Rattle.owners.proofs.claims.unclaim.Goals as goal
 

@@ -1,5 +1,5 @@
 -- Each piece taken back leaves the earlier ones to take back.
-use Rattle.std.proofs.Common.{◌≡◌, ◌∙◌, arith}
+use Rattle.std.proofs.Common.{◌∙◌, arith}
 use Rattle.owners.proofs.Transfers.{unclaim_all_step, unclaim_all_none}
 use Rattle.owners.proofs.claims.unclaim_pieces.Goals as goal
 

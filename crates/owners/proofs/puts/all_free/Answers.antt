@@ -1,5 +1,5 @@
 -- A page with an owner decides; a free one leaves it to the later ones.
-use Rattle.std.proofs.Common.{◌≡◌, ◌+◌, ◌-◌, sym, ap, ◌∙◌}
+use Rattle.std.proofs.Common.{◌+◌, ◌-◌, sym, ap, ◌∙◌}
 use Rattle.owners.specs.Puts.{all_free, when_none}
 use Rattle.owners.proofs.Putting.{free_step}
 use Rattle.owners.proofs.puts.all_free.Goals as goal

@@ -1,5 +1,5 @@
 -- The place after the last, where it does not come round and where it does.
-use Rattle.std.proofs.Common.{◌≡◌, ◌+◌, ◌%◌, refl, arith}
+use Rattle.std.proofs.Common.{refl, arith}
 use Rattle.ring.proofs.Places.{took, place_ahead, place_round}
 use Rattle.ring.proofs.Ring.grow.Goals as goal
 

@@ -1,5 +1,5 @@
 -- The oldest place goes, and the one after it is the oldest.
-use Rattle.std.proofs.Common.{◌≡◌, ◌+◌, ◌-◌, ◌%◌, ◌<◌, ◌≤◌, sym, refl, ap, ◌∙◌, arith}
+use Rattle.std.proofs.Common.{◌≡◌, ◌+◌, ◌-◌, ◌%◌, ◌<◌, ◌≤◌, refl, ap, ◌∙◌, arith}
 use native.Mathlib.Nat.{min-le_right}
 use Rattle.ring.specs.Rings.{count}
 use Rattle.ring.proofs.Places.{let_go, next_first, next_place}

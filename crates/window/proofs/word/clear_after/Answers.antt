@@ -1,5 +1,4 @@
 -- The clear bits after the first set one.
-use Rattle.window.specs.Words.{held}
 use Rattle.window.proofs.Turning.{shown_none, shown_is, shows_by}
 use Rattle.window.proofs.word.clear_after.Goals as goal
 

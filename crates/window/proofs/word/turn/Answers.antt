@@ -1,6 +1,5 @@
 -- The turn of a word is the sum of its two parts.
-use Rattle.window.specs.Words.{held, turned}
-use Rattle.std.proofs.Common.{◌≡◌}
+use Rattle.window.specs.Words.{held}
 use Rattle.window.proofs.Turning.{turn_is, turn_none, turn_first, turn_parts}
 use Rattle.window.proofs.word.turn.Goals as goal
 

@@ -1,6 +1,6 @@
 -- A packet in its own place, and the other places as they were.
 use borrow.Rule.Slice.PartMut.{put_mid}
-use Rattle.std.proofs.Common.{◌≡◌, ℕ, ◌+◌, ◌-◌, ◌*◌, ◌%◌, ◌≤◌, List, ◌++◌, length, take, drop, vec_items, vec_len, sym, refl, ap, ◌∙◌, subst, arith, length-set}
+use Rattle.std.proofs.Common.{◌≡◌, ℕ, ◌*◌, ◌%◌, List, ◌++◌, length, take, drop, vec_items, vec_len, refl, ap, ◌∙◌, arith, length-set}
 use Rattle.std.proofs.lemmas.List.{take_at}
 use Rattle.devices.specs.Early.{part}
 use Rattle.devices.proofs.Rooms.{room_here, room_others}

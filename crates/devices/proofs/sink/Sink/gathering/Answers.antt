@@ -1,5 +1,5 @@
 -- A new gathering sink holds nothing, and has room for a burst.
-use Rattle.std.proofs.Common.{◌≡◌, ℕ, sym, refl, ◌∙◌}
+use Rattle.std.proofs.Common.{ℕ, sym, refl, ◌∙◌}
 use Rattle.devices.specs.Keeping.{never, nothing_held, new_empty}
 use Rattle.devices.proofs.sink.Sink.gathering.Goals as goal
 

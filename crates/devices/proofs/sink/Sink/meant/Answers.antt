@@ -1,5 +1,5 @@
 -- A number stands for no packet that is kept already.
-use Rattle.std.proofs.Common.{◌≡◌, None, vec_items, vec_len, sym, subst}
+use Rattle.std.proofs.Common.{None, vec_items, vec_len, sym, subst}
 use Rattle.link.specs.Meaning.{Meant}
 use Rattle.devices.proofs.Steps.{sound_of}
 use Rattle.devices.specs.Keeping.{meant_held}

@@ -1,5 +1,5 @@
 -- A new plain sink holds nothing.
-use Rattle.std.proofs.Common.{◌≡◌, ℕ, false, sym, refl, ◌∙◌}
+use Rattle.std.proofs.Common.{ℕ, false, sym, refl, ◌∙◌}
 use Rattle.std.proofs.lemmas.Bool.{both_ways}
 use Rattle.devices.specs.Keeping.{never, nothing_held, new_empty}
 use Rattle.devices.proofs.sink.Sink.plain.Goals as goal

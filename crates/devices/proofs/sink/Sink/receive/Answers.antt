@@ -1,5 +1,5 @@
 -- A Send of a sink, by what becomes of its packet.
-use Rattle.std.proofs.Common.{◌≡◌, ℕ, ◌+◌, ◌-◌, ◌*◌, ◌<◌, ◌≤◌, Bool, true, false, List, [], ◌∷◌, ◌++◌, length, Some, None, vec_items, vec_len, sym, refl, ap, ◌∙◌, subst, zero-mul, arith}
+use Rattle.std.proofs.Common.{◌≡◌, ℕ, ◌+◌, ◌-◌, ◌*◌, ◌<◌, ◌≤◌, true, false, [], ◌∷◌, ◌++◌, length, Some, None, vec_items, vec_len, sym, refl, ap, ◌∙◌, subst, zero-mul, arith}
 use Rattle.link.specs.declared.term.Window.{Window}
 use Rattle.link.specs.Meaning.{Meant, Follows}
 use Rattle.link.specs.Terms.{bytes_of}

@@ -1,5 +1,5 @@
 -- A vector, bit by bit.
-use Rattle.std.proofs.Common.{◌≡◌, ◌<◌, vec_items, vec_len, sym, refl, ◌∙◌, arith}
+use Rattle.std.proofs.Common.{◌<◌, vec_items, vec_len, sym, refl, ◌∙◌, arith}
 use Rattle.devices.specs.Early.{early_from}
 use Rattle.link.proofs.Sound.{range_most}
 use Rattle.devices.proofs.Steps.{sound_of}

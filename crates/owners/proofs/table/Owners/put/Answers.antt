@@ -1,6 +1,5 @@
 -- What is told, what is stored, and that the law holds of it.
-use Rattle.std.proofs.Common.{◌≡◌, length, Ok, Err, sym, refl, ◌∙◌, arith}
-use Rattle.owners.specs.Puts.{put_verdict}
+use Rattle.std.proofs.Common.{length, sym, refl, ◌∙◌, arith}
 use Rattle.owners.proofs.Putting.{size_ok, put_none, put_goes, put_taken, law_of, sets_none}
 use Rattle.memory.proofs.Storing.{put_mid_sets}
 use Rattle.owners.proofs.table.Owners.put.Goals as goal

@@ -1,5 +1,5 @@
 -- The bytes of all messages from a cursor on.
-use Rattle.std.proofs.Common.{◌≡◌, ◌+◌, ◌-◌, ◌≤◌, min, length, sym, refl, ap, ◌∙◌, arith}
+use Rattle.std.proofs.Common.{◌-◌, ◌≤◌, min, length, sym, refl, ap, ◌∙◌, arith}
 use Rattle.reader.specs.Bytes.{flat}
 use Rattle.reader.specs.Walks.{at_end, counted_less, counted_more, counted_all}
 use Rattle.reader.proofs.cursor.Cursor.all_left.Goals as goal

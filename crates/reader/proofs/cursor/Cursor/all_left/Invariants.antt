@@ -1,5 +1,5 @@
 -- What is counted so far, with the lengths still to come, is what it was when the loop began.
-use Rattle.std.proofs.Common.{◌≡◌, ◌+◌, ◌-◌, ◌≤◌, min, length, drop}
+use Rattle.std.proofs.Common.{◌≡◌, ◌+◌, ◌≤◌, min, drop}
 use Rattle.reader.specs.Bytes.{sum_of}
 use Rattle.reader.proofs.cursor.Cursor.all_left.Given as goal
 

@@ -1,5 +1,5 @@
 -- A new reader stands before its first message.
-use Rattle.std.proofs.Common.{◌≡◌, refl, ap}
+use Rattle.std.proofs.Common.{ap}
 use Rattle.reader.specs.Readers.{given}
 use Rattle.reader.specs.Walks.{text_start}
 use Rattle.reader.proofs.reader.Reader.new.Goals as goal

@@ -1,5 +1,5 @@
 -- The bytes from the place on.
-use Rattle.std.proofs.Common.{◌≡◌, ◌+◌, ◌-◌, take, drop, vec_items, sym, ap, ◌∙◌, arith}
+use Rattle.std.proofs.Common.{◌≡◌, ◌+◌, ◌-◌, take, drop, vec_items, ap, ◌∙◌, arith}
 use Rattle.reader.specs.Reading.{text_at}
 use Rattle.reader.specs.Bytes.{flat}
 use Rattle.reader.proofs.reader.Reader.unsent_bytes.Goals as goal

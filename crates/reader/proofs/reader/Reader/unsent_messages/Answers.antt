@@ -1,5 +1,5 @@
 -- The messages from the place on.
-use Rattle.std.proofs.Common.{◌≡◌, ◌-◌, length, vec_items, sym, ap, ◌∙◌}
+use Rattle.std.proofs.Common.{◌-◌, length, vec_items, sym, ap, ◌∙◌}
 use Rattle.reader.specs.Walks.{messages_left}
 use Rattle.reader.proofs.reader.Reader.unsent_messages.Goals as goal
 

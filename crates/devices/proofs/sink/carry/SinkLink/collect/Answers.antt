@@ -1,5 +1,5 @@
 -- A Collect after Sends that all lacked space is NotReady, any other gives the vector.
-use Rattle.std.proofs.Common.{◌≡◌, length, vec_items, vec_len, sym, refl, ◌∙◌, subst}
+use Rattle.std.proofs.Common.{◌≡◌, length, vec_items, sym, subst}
 use Rattle.devices.specs.Taken.{cut}
 use Rattle.devices.specs.declared.since.Since.TheVariants.{Nothing, Otherwise}
 use Rattle.devices.specs.declared.sink.Sink.{Sink}

@@ -1,5 +1,5 @@
 -- After a Restart nothing is held.
-use Rattle.std.proofs.Common.{◌≡◌, ℕ, ◌≤◌, true, length, vec_items, sym, refl, ap, ◌∙◌, subst, rules}
+use Rattle.std.proofs.Common.{◌≡◌, ℕ, ◌≤◌, true, length, vec_items, sym, ◌∙◌, subst, rules}
 use Rattle.link.specs.Bounds.{sound}
 use Rattle.devices.specs.Keeping.{never, nothing_held, restarted_empty}
 use Rattle.devices.proofs.sink.carry.SinkLink.restart.Goals as goal

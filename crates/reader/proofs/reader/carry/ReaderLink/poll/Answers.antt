@@ -1,5 +1,5 @@
 -- A poll moves the place to the aim, or says that there is none.
-use Rattle.std.proofs.Common.{◌≡◌, ◌<◌, ◌≤◌, length, vec_items, ap, arith}
+use Rattle.std.proofs.Common.{◌<◌, ◌≤◌, length, vec_items, ap, arith}
 use Rattle.reader.specs.Seeking.{Found, Missing}
 use Rattle.reader.specs.Pipes.{reader_missing, reader_data, reader_end, stands_next, reached_next, at_both}
 use Rattle.reader.proofs.reader.carry.ReaderLink.poll.Goals as goal
