@@ -1,3 +1,4 @@
+-- What a sink keeps ahead is ahead in the sense of a term, with or without numbers.
 use Rattle.std.specs.Prelude.{ℕ, ◌+◌, ◌<◌, ◌≤◌, List, length, Some, None, Option}
 use Rattle.link.specs.declared.term.Window.{Window}
 use Rattle.link.specs.Terms.{Ahead}

@@ -6,7 +6,7 @@ ghost use Rattle.example_link.specs.Lamp.{CollectedLamp, FetchedLamp, PolledLamp
 ghost use Rattle.link.specs.Bounds.{sound};
 ghost use Rattle.link.specs.Meaning.{Vector, outward, solo};
 ghost use Rattle.example_link.specs.Lamps.{send_law};
-ghost use Rattle.std.proofs.Common.{rules, arith};
+ghost use Rattle.std.proofs.Common.{rules};
 
 use link::{Collected, Direction, Fetched, Link, Packet, PollAnswer, Window};
 use window::{asking, low_bits};
@@ -70,19 +70,19 @@ impl Link for Lamp {
 
     ghost collected = { λ s p a t. CollectedLamp (lamp s.window s.shows) p a (lamp t.window t.shows) };
 
-    ghost above = { first_of (Prim.search rules, Prim.grind (arith, Self.row.coded.inj)) };
+    ghost above = { Prim.search rules };
 
-    ghost bounds = { first_of (Prim.search rules, Prim.grind (arith, Self.row.coded.inj)) };
+    ghost bounds = { Prim.search rules };
 
-    ghost restarting = { first_of (Prim.search rules, Prim.grind (arith, Self.row.coded.inj)) };
+    ghost restarting = { Prim.search rules };
 
-    ghost polling = { first_of (Prim.search rules, Prim.grind (arith, Self.row.coded.inj)) };
+    ghost polling = { Prim.search rules };
 
-    ghost fetching = { first_of (Prim.search rules, Prim.grind (arith, Self.row.coded.inj)) };
+    ghost fetching = { Prim.search rules };
 
     ghost sending = { λ s t p n b h. send_law s.window s.shows _ p n b s.fit h };
 
-    ghost collecting = { first_of (Prim.search rules, Prim.grind (arith, Self.row.coded.inj)) };
+    ghost collecting = { Prim.search rules };
 
     fn describe(&self, pipe: u8) -> Option<Direction> {
         if pipe == 0 {

@@ -1,3 +1,4 @@
+-- A step of the joint over the split that stays.
 use Rattle.std.specs.Prelude.{◌≡◌, ℕ}
 use Rattle.std.proofs.Common.{sym, subst}
 use Rattle.link.specs.Meaning.{Pipe, Only}

@@ -27,9 +27,9 @@ abbrev pub made_board : Board
 made_board = zeroed 4096
 
 -- making one over a lent buffer, which has 4,096 bytes or is refused
-abbrev pub made : List ℕ → Result Notices Refusal → Type 0
-made lent (Ok n) = (length lent ≡ 4096) × (board n ≡ zeroed (length lent))
-made lent (Err f) = (length lent ≢ 4096) × (f ≡ WrongSize)
+abbrev pub Made : List ℕ → Result Notices Refusal → Type 0
+Made lent (Ok n) = (length lent ≡ 4096) × (board n ≡ zeroed (length lent))
+Made lent (Err f) = (length lent ≢ 4096) × (f ≡ WrongSize)
 
 -- the buffer that is written is the one that was lent
 abbrev pub LentTo : GName → Result Notices Refusal → Type 0

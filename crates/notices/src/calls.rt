@@ -1,6 +1,6 @@
 //! The calls on a notice buffer: making one, switching on, an arriving notice, taking the oldest.
 ghost use Rattle.std.specs.Prelude.{◌≡◌};
-ghost use Rattle.notices.specs.Boards.{board, made, LentTo, switched, arriving, arrived, taking, taken};
+ghost use Rattle.notices.specs.Boards.{board, Made, LentTo, switched, arriving, arrived, taking, taken};
 
 use crate::block::{block_of, clear_valid, fits_block, wipe, write_block};
 use crate::board::Notices;
@@ -10,7 +10,7 @@ use ring::Ring;
 impl<'a> Notices<'a> {
     /// A notice buffer over 4,096 lent bytes: zeroed, off, from block 0.
     pub fn new(buffer: &'a mut [u8]) -> Result<Notices<'a>, Refusal>
-        ensures value { made buffer.old result }
+        ensures value { Made buffer.old result }
         ensures lent { LentTo buffer.entry.ghost_name result }
     {
         if buffer.len() != 4096 {
