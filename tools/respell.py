@@ -25,8 +25,8 @@ TURNED = """
     stored-other stored-there sumOf take-min takenOf told-more too-large took-more turn-is two-runs under-top upto-all upto-skip walked-all
     walked-end walked-more walked-none whole-by word-of word-same write-bytes
 """.split()
-# a fact in small letters, and lemmas that would have their definition's name
-LEMMAS = {"lentTo": "LentTo", "in-second": "in_second_lem", "when-none": "when_none_lem"}
+# by hand: a fact in small letters, and lemmas that would have their definition's name
+BY_HAND = {"lentTo": "LentTo", "in-second": "in_second_lem", "when-none": "when_none_lem"}
 WORDS = {"use", "let", "where", "--", "λ", "elim", "mod", "in"}
 
 
@@ -44,11 +44,10 @@ def camel(name):
 
 
 def declared():
-    """name -> whether it is a fact or a type, for each name that the repository declares and that has another spelling"""
+    """Returns the new spelling of each name that the repository declares and that changes, and which names are fields."""
     found = {}
     fields = set()
     for f in antt_files():
-        inside = False
         for line in open(f, encoding="utf-8"):
             m = HEAD.match(line)
             if not m:
@@ -65,19 +64,19 @@ def declared():
                 print("a fact with a small first letter:", name, f, file=sys.stderr)
             if indent and "pub" in marks.split():
                 fields.add(name)
-            new = LEMMAS.get(name) or (camel(name) if name[0].isupper() else snake(name))
+            new = BY_HAND.get(name) or (camel(name) if name[0].isupper() else snake(name))
             if new != name:
                 found[name] = new
     return found, fields
 
 
-def respell(text, names, fields, where, code=False):
+def respell(text, names, fields, where):
     token = re.compile(r"(?<![\w'·-])(" + "|".join(re.escape(n) for n in sorted(names, key=len, reverse=True)) + r")(?![\w'·-])")
 
     def one(m):
         name = m.group(1)
         if m.start() and text[m.start() - 1] == "." and name not in fields:
-            before = text[max(0, m.start() - 60):m.start()].split()[-1] if text[max(0, m.start() - 60):m.start()].split() else ""
+            before = text[max(0, m.start() - 60):m.start()].split()[-1]
             if re.search(r"(^|[^\w.])(c|w|l|g|goal)(\.[^\s()]*)*\.$", before):
                 print("kept after a dot:", where, before + name, file=sys.stderr)
                 return name
