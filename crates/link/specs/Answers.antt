@@ -1,5 +1,5 @@
 -- The cases of what a link answers, with the number of each. Contracts use these definitions.
-use Rattle.std.specs.Prelude.{ℕ}
+use Rattle.std.specs.Prelude.{ℕ, List, codes}
 use Rattle.link.specs.declared.answers.Direction.{Direction}
 use Rattle.link.specs.declared.answers.Direction.TheVariants.{Inward, Outward}
 use Rattle.link.specs.declared.answers.PollAnswer.{PollAnswer}
@@ -12,6 +12,11 @@ use Rattle.link.specs.declared.answers.Collected.TheVariants as collected
 abbrev pub direction_number : Direction → ℕ
 direction_number Inward = 1
 direction_number Outward = 2
+
+-- a direction in words
+abbrev pub direction_words : Direction → List ℕ
+direction_words Inward = codes "inward"
+direction_words Outward = codes "outward"
 
 abbrev pub poll_number : PollAnswer → ℕ
 poll_number poll.Data = 1

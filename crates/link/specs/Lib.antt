@@ -1,6 +1,7 @@
 -- The root of the link's definitions.
 pub mod Answers
 pub mod Bounds
+pub mod Numbered
 pub mod Text
 pub mod Packets
 pub mod Meaning

@@ -1,6 +1,8 @@
 //! What a link answers: a pipe's direction, and the answers of Poll, Fetch and Collect, each with its number.
-ghost use Rattle.std.specs.Prelude.{◌≡◌};
-ghost use Rattle.link.specs.Answers.{collected_number, direction_number, fetched_number, poll_number};
+ghost use Rattle.std.specs.Prelude.{◌≡◌, Some};
+ghost use Rattle.link.specs.Answers.{collected_number, direction_number, direction_words, fetched_number, poll_number};
+
+use std::fmt;
 
 /// Which way a pipe carries packets, seen from the engine.
 #[derive(Clone, Copy, PartialEq, Eq, Debug)]
@@ -11,14 +13,24 @@ pub enum Direction {
     Outward,
 }
 
-impl Direction {
-    /// The number of the direction.
-    pub fn number(self) -> u8
-        ensures { result ≡ direction_number self }
-    {
-        match self {
+impl From<Direction> for u8 {
+    ghost from_gives = { λ d n. n ≡ direction_number d };
+
+    fn from(direction: Direction) -> u8 {
+        match direction {
             Direction::Inward => 1,
             Direction::Outward => 2,
+        }
+    }
+}
+
+impl fmt::Display for Direction {
+    ghost output = { λ d. Some (direction_words d) };
+
+    fn fmt<W: fmt::Write>(&self, f: &mut fmt::Formatter<W>) -> fmt::Result {
+        match *self {
+            Direction::Inward => write!(f, "inward"),
+            Direction::Outward => write!(f, "outward"),
         }
     }
 }
@@ -36,12 +48,11 @@ pub enum PollAnswer {
     Silence,
 }
 
-impl PollAnswer {
-    /// The number of the answer.
-    pub fn number(self) -> u8
-        ensures { result ≡ poll_number self }
-    {
-        match self {
+impl From<PollAnswer> for u8 {
+    ghost from_gives = { λ a n. n ≡ poll_number a };
+
+    fn from(answer: PollAnswer) -> u8 {
+        match answer {
             PollAnswer::Data => 1,
             PollAnswer::NotReady => 2,
             PollAnswer::Stall => 3,
@@ -50,7 +61,7 @@ impl PollAnswer {
     }
 }
 
-/// What a Fetch answers.
+/// What a Fetch answers. The packet stands in the room that was lent, so that no layer copies it.
 #[derive(Clone, Copy, PartialEq, Eq, Debug)]
 pub enum Fetched {
     /// The packet came, and stands in the room that was lent.
@@ -59,12 +70,11 @@ pub enum Fetched {
     Lost,
 }
 
-impl Fetched {
-    /// The number of the answer.
-    pub fn number(self) -> u8
-        ensures { result ≡ fetched_number self }
-    {
-        match self {
+impl From<Fetched> for u8 {
+    ghost from_gives = { λ a n. n ≡ fetched_number a };
+
+    fn from(answer: Fetched) -> u8 {
+        match answer {
             Fetched::Packet => 1,
             Fetched::Lost => 2,
         }
@@ -84,12 +94,11 @@ pub enum Collected {
     Silence,
 }
 
-impl Collected {
-    /// The number of the answer.
-    pub fn number(self) -> u8
-        ensures { result ≡ collected_number self }
-    {
-        match self {
+impl From<Collected> for u8 {
+    ghost from_gives = { λ a n. n ≡ collected_number a };
+
+    fn from(answer: Collected) -> u8 {
+        match answer {
             Collected::Vector(_) => 1,
             Collected::NotReady => 2,
             Collected::Stall => 3,

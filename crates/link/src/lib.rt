@@ -15,8 +15,8 @@ pub mod packet;
 pub mod term;
 
 pub use answers::{Collected, Direction, Fetched, PollAnswer};
-pub use packet::Packet;
-pub use term::Window;
+pub use packet::{Packet, TooLong};
+pub use term::{SoundWindow, Window};
 
 /// What carries packets between the engine and functions.
 ///

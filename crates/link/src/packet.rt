@@ -1,15 +1,28 @@
 //! Room for one packet.
-ghost use Rattle.std.specs.Prelude.{◌≤◌};
+use std::marker::Model;
 
 pub mod holding;
 
 /// The longest packet.
 pub const LONGEST: usize = 3584;
 
-/// Room for one packet.
+/// More bytes than a packet can have.
+#[derive(Clone, Copy, PartialEq, Eq, Debug)]
+pub struct TooLong;
+
+/// Room for one packet, seen as the bytes that it holds.
 #[derive(Drop)]
 pub struct Packet {
-    room: [u8; 3584],
+    room: [u8; LONGEST],
     length: usize,
-    ghost fits: { length ≤ 3584 },
+}
+
+impl Model for Packet {
+    ghost use Rattle.std.specs.Prelude.{ℕ, ◌≤◌, List, take};
+
+    ghost Value = { List ℕ };
+
+    ghost view = { λ p. take p.length p.room };
+
+    ghost invariant = { λ p. p.length ≤ 3584 };
 }

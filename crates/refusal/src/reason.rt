@@ -29,12 +29,12 @@ pub enum Party {
     ImageSender,
 }
 
-impl Party {
-    /// The place of the party in the list of parties, from 1.
-    pub fn number(self) -> u8
-        ensures { result ≡ party_number self }
-    {
-        match self {
+/// The place of the party in the list of parties, from 1.
+impl From<Party> for u8 {
+    ghost from_gives = { λ p n. n ≡ party_number p };
+
+    fn from(party: Party) -> u8 {
+        match party {
             Party::SetUp => 1,
             Party::Driver => 2,
             Party::Device => 3,
@@ -82,12 +82,12 @@ pub enum Refusal {
     ImageSize,
 }
 
-impl Refusal {
-    /// The number by which people and logs know the refusal.
-    pub fn number(self) -> u8
-        ensures { result ≡ number self }
-    {
-        match self {
+/// The number by which people and logs know the refusal.
+impl From<Refusal> for u8 {
+    ghost from_gives = { λ r n. n ≡ number r };
+
+    fn from(refusal: Refusal) -> u8 {
+        match refusal {
             Refusal::WrongSize => 1,
             Refusal::NoSuchSet => 2,
             Refusal::WrongState => 3,
@@ -107,12 +107,15 @@ impl Refusal {
             Refusal::ImageSize => 17,
         }
     }
+}
 
+impl Refusal {
     /// Who brought it about.
     pub fn party(self) -> Party
         ensures { result ≡ party self }
     {
-        match self.number() {
+        // By the number, since that is how the parties are told apart.
+        match u8::from(self) {
             0..=2 => Party::SetUp,
             3..=13 => Party::Driver,
             14..=16 => Party::Device,
@@ -125,16 +128,13 @@ impl Refusal {
         ensures { result ≡ spot self }
     {
         match self {
-            Refusal::BadPlace(spot) => spot,
-            Refusal::PageTaken(spot) => spot,
+            Refusal::BadPlace(spot) | Refusal::PageTaken(spot) => spot,
             _ => Spot::Call,
         }
     }
 }
 
 /// Of a chain of rules whose numbers rise, the smallest refusal whose condition holds comes.
-pub fn smallest_first() -> u8
+pub fn smallest_first()
     ensures { SmallestFirst }
-{
-    0
-}
+{}

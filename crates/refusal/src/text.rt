@@ -48,7 +48,7 @@ impl fmt::Display for Refusal {
     ghost output = { λ r. Some (written r) };
 
     fn fmt<W: fmt::Write>(&self, f: &mut fmt::Formatter<W>) -> fmt::Result {
-        let number = self.number();
+        let number = u8::from(*self);
         let spot = self.spot();
         let words = self.words();
         write!(f, "refused {number}{spot}: {words}")

@@ -6,7 +6,7 @@ use lib.Bits.{bit_or, or_shifted_r}
 use Rattle.std.proofs.lemmas.Nat.{pow_pos, mod_below, shr_below, shl_whole, shr_le}
 use Rattle.std.proofs.lemmas.Bool.{cases_lt}
 use Rattle.window.specs.Numbers.{bit, Bit}
-use Rattle.window.specs.Words.{held, swung, turned, asked, ahead, others, shown, Turned, Asks, distance, Nearest, Shows}
+use Rattle.window.specs.Words.{swung, turned, asked, ahead, others, shown, Turned, Asks, distance, Nearest, Shows}
 use Rattle.window.proofs.Bits.{bit_shr, bit_others, bit_cases, bit_past, bit_mod, bit_swung, trailing_is, trailing_none, first_set, small_sum, trailing_min}
 
 -- bit i of a turned word
@@ -133,10 +133,10 @@ ahead_nearest M k v =
 pub turn_is : (M k v r : ℕ) → r ≡ turned M k v → Turned M k v r
 turn_is M k v r e = rw e (turned_turned M k v)
 
-pub turn_parts : (R M first v w low : ℕ) → M ≡ min R 32 → (M ≡ 0 → ⊥) → w ≡ v % 2 ^ M → low ≡ w % 2 ^ (first % M)
-    → bit_or (w / 2 ^ (first % M)) ((low * 2 ^ (M - first % M)) % 2 ^ 32) ≡ turned (held R) first v
+pub turn_parts : (M first v w low : ℕ) → M ≤ 32 → (M ≡ 0 → ⊥) → w ≡ v % 2 ^ M → low ≡ w % 2 ^ (first % M)
+    → bit_or (w / 2 ^ (first % M)) ((low * 2 ^ (M - first % M)) % 2 ^ 32) ≡ turned M first v
 unfolding turned
-turn_parts R M first v w low q nz ew el =
+turn_parts M first v w low q nz ew el =
     let p : 0 < M = omega arith in
     let k = mod-lt first p in
     let e : M - first % M + first % M ≡ M = omega arith in
@@ -147,37 +147,31 @@ turn_parts R M first v w low q nz ew el =
     ∙ add_comm (low * 2 ^ (M - first % M)) (w / 2 ^ (first % M))
     ∙ ap (λ x. w / 2 ^ (first % M) + x * 2 ^ (M - first % M)) el
     ∙ ap (λ x. swung M (first % M) x) ew
-    ∙ ap (λ x. swung x (first % x) (v % 2 ^ x)) q
 
-pub turn_none : (R M first v : ℕ) → M ≡ min R 32 → M ≡ 0 → ◌≡◌ {A = ℕ} 0 (turned (held R) first v)
-turn_none R M first v q z =
-    let e : held R ≡ 0 = omega arith in
-    rw e (omega (arith, turned_below 0 first v))
+pub turn_none : (M first v : ℕ) → M ≡ 0 → ◌≡◌ {A = ℕ} 0 (turned M first v)
+turn_none M first v z = rw z (omega (arith, turned_below 0 first v))
 
-pub turn_first : (R M first v w : ℕ) → M ≡ min R 32 → first % M ≡ 0 → w ≡ v % 2 ^ M → w ≡ turned (held R) first v
+pub turn_first : (M first v w : ℕ) → first % M ≡ 0 → w ≡ v % 2 ^ M → w ≡ turned M first v
 unfolding turned
-turn_first R M first v w q z ew =
+turn_first M first v w z ew =
     let one : v % 2 ^ M % 2 ^ 0 ≡ 0 = omega arith in
-    ew ∙ sym (rw (z, one) (omega (arith, div-one (v % 2 ^ M)))) ∙ ap (λ x. swung x (first % x) (v % 2 ^ x)) q
+    ew ∙ sym (rw (z, one) (omega (arith, div-one (v % 2 ^ M))))
 
-pub ask_none : (R M next v : ℕ) → M ≡ min R 32 → M ≡ 0 → ◌≡◌ {A = ℕ} 0 (asked (held R) next v)
+pub ask_none : (M next v : ℕ) → M ≡ 0 → ◌≡◌ {A = ℕ} 0 (asked M next v)
 unfolding asked
-ask_none R M next v q z = turn_none R M (held R - next % held R) v q z
+ask_none M next v z = turn_none M (M - next % M) v z
 
-pub ask_is : (R M next v r : ℕ) → M ≡ min R 32 → r ≡ turned (held M) (M - next % M) v → r ≡ asked (held R) next v
+pub ask_is : (M next v r : ℕ) → r ≡ turned M (M - next % M) v → r ≡ asked M next v
 unfolding asked
-ask_is R M next v r q e =
-    let same : held M ≡ M = omega arith in
-    e ∙ ap (λ x. turned x (M - next % M) v) same ∙ ap (λ x. turned x (x - next % x) v) q
+ask_is M next v r e = e
 
 pub asks_by : (M h v r : ℕ) → r ≡ asked M h v → Asks M h v r
 asks_by M h v r e = rw e (asked_asks M h v)
 
-pub ahead_is : (R M first v t z r : ℕ) → M ≡ min R 32 → t ≡ turned (held R) first v → z ≡ count_trailing_zeros 32 t → r ≡ min z M → r ≡ ahead (held R) first v
+pub ahead_is : (M first v t z r : ℕ) → M ≤ 32 → t ≡ turned M first v → z ≡ count_trailing_zeros 32 t → r ≡ min z M → r ≡ ahead M first v
 unfolding ahead
-ahead_is R M first v t z r q et ez er =
-    er ∙ min_comm z M ∙ ap (min M) (ez ∙ ap (count_trailing_zeros 32) et) ∙ sym (trailing_min M 32 (turned (held R) first v) (omega arith))
-    ∙ ap (λ x. count_trailing_zeros x (turned (held R) first v)) q
+ahead_is M first v t z r q et ez er =
+    er ∙ min_comm z M ∙ ap (min M) (ez ∙ ap (count_trailing_zeros 32) et) ∙ sym (trailing_min M 32 (turned M first v) q)
 
 pub nearest_by : (M k v d : ℕ) → d ≡ ahead M k v → Nearest M k v d
 nearest_by M k v d e = rw e (ahead_nearest M k v)
@@ -228,16 +222,15 @@ shown_shows M k n v m32 nM i = (there_is, is_there)
           | inr x ↦ absurd (p.1 x)
         ]
 
-pub shown_none : (R N M C first v d : ℕ) → M ≡ min R 32 → C ≡ min N M → d ≡ ahead (held R) first v → C ≤ d → ◌≡◌ {A = ℕ} 0 (shown (held R) first (min N (held R)) v)
-shown_none R N M C first v d q qc e l = shown_past (held R) first (min N (held R)) v (omega arith)
+pub shown_none : (M n C first v d : ℕ) → C ≡ min n M → d ≡ ahead M first v → C ≤ d → ◌≡◌ {A = ℕ} 0 (shown M first (min n M) v)
+shown_none M n C first v d qc e l = shown_past M first (min n M) v (omega arith)
 
-pub shown_is : (R N M C first v d t r : ℕ) → M ≡ min R 32 → C ≡ min N M → d ≡ ahead (held R) first v → t ≡ turned (held R) first v
-    → r ≡ (4294967295 - t / 2 ^ d) % 2 ^ (C - d) → r ≡ shown (held R) first (min N (held R)) v
+pub shown_is : (M n C first v d t r : ℕ) → C ≡ min n M → d ≡ ahead M first v → t ≡ turned M first v
+    → r ≡ (4294967295 - t / 2 ^ d) % 2 ^ (C - d) → r ≡ shown M first (min n M) v
 unfolding shown
-shown_is R N M C first v d t r q qc ed et er =
-    let c : C ≡ min N (held R) = omega arith in
-    er ∙ ap (λ x. (4294967295 - x / 2 ^ d) % 2 ^ (C - d)) et ∙ ap (λ x. others (C - x) (turned (held R) first v / 2 ^ x)) ed
-    ∙ ap (λ x. others (x - ahead (held R) first v) (turned (held R) first v / 2 ^ ahead (held R) first v)) c
+shown_is M n C first v d t r c ed et er =
+    er ∙ ap (λ x. (4294967295 - x / 2 ^ d) % 2 ^ (C - d)) et ∙ ap (λ x. others (C - x) (turned M first v / 2 ^ x)) ed
+    ∙ ap (λ x. others (x - ahead M first v) (turned M first v / 2 ^ ahead M first v)) c
 
-pub shows_by : (R N first v r : ℕ) → r ≡ shown (held R) first (min N (held R)) v → Shows (held R) first (min N (held R)) v (ahead (held R) first v) r
-shows_by R N first v r e = rw e (shown_shows (held R) first (min N (held R)) v (omega arith) (omega arith))
+pub shows_by : (M n first v r : ℕ) → M ≤ 32 → r ≡ shown M first (min n M) v → Shows M first (min n M) v (ahead M first v) r
+shows_by M n first v r q e = rw e (shown_shows M first (min n M) v (omega arith) (omega arith))

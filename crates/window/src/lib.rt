@@ -5,13 +5,11 @@ ghost use Rattle.window.specs.Wrap.{NumbersCount, PollsAim, VectorsTell};
 
 pub mod word;
 
-pub use word::{asking, clear_after, clear_before, low_bits, turn};
+pub use word::{SequenceRange, low_bits};
 
-/// The facts about wrapping numbers that a window rests on; the answer says nothing.
-pub fn wrap_stands() -> u8
+/// The facts about wrapping numbers that a window rests on.
+pub fn wrap_stands()
     ensures polls { PollsAim }
     ensures vectors { VectorsTell }
     ensures numbers { NumbersCount }
-{
-    0
-}
+{}

@@ -12,62 +12,75 @@ pub fn low_bits(word: u32, count: u8) -> u32
     word & ((1 << count as u32) - 1)
 }
 
-/// The lowest `range` bits of a word, turned so that bit `first` comes first.
+/// A sequence range as a word can hold it: at most 32 numbers, each with a bit of the word.
 ///
-/// A range above 32 is taken as 32, `first` as what it leaves divided by the range; with a range of 0 the answer is 0.
-pub fn turn(word: u32, first: u8, range: u8) -> u32
-    ensures is { result ≡ turned (held range) first word }
-    ensures bits { Turned (held range) first word result }
-{
-    let range = range.min(32);
-    let word = low_bits(word, range);
-    if range == 0 {
-        return 0;
-    }
-    let first = first % range;
-    if first == 0 {
-        return word;
-    }
-    let low = low_bits(word, first);
-    (word >> first as u32) | (low << (range - first) as u32)
+/// Where a call takes a number `first` or `next`, it means what the range leaves of it; with a range of 0 each call answers 0.
+#[derive(Clone, Copy)]
+pub struct SequenceRange {
+    range: u8,
+    ghost within: { range ≤ 32 },
 }
 
-/// The word that asks for offsets: each offset i below `range` whose bit is set in `wanted` stands for the number (`next` + i) mod `range`.
-///
-/// A range above 32 is taken as 32; with a range of 0 nothing is asked for.
-pub fn asking(wanted: u32, next: u8, range: u8) -> u32
-    ensures is { result ≡ asked (held range) next wanted }
-    ensures bits { Asks (held range) next wanted result }
-{
-    let range = range.min(32);
-    if range == 0 {
-        return 0;
+impl SequenceRange {
+    /// The range of so many numbers; above 32 it is taken as 32.
+    pub fn new(range: u8) -> SequenceRange
+        ensures { result.range ≡ held range }
+    {
+        SequenceRange {
+            range: range.min(32),
+        }
     }
-    turn(wanted, range - next % range, range)
-}
 
-/// How many bits are clear before the first set one, from bit `first` on and round the `range` lowest bits of the word; the range itself if none is set.
-///
-/// A range above 32 is taken as 32, `first` as what it leaves divided by the range.
-pub fn clear_before(word: u32, first: u8, range: u8) -> u8
-    ensures is { result ≡ ahead (held range) first word }
-    ensures nearest { Nearest (held range) first word result }
-{
-    let most = range.min(32);
-    turn(word, first, range).trailing_zeros().min(most as u32) as u8
-}
-
-/// The offsets below `count` whose bit is clear, counted from the first set bit past bit `first`: bit i of the answer stands for the i-th offset after that one.
-///
-/// A range above 32 is taken as 32, `first` as what it leaves divided by the range, and a count above the range as the range.
-pub fn clear_after(word: u32, first: u8, range: u8, count: u8) -> u32
-    ensures is { result ≡ shown (held range) first (min count (held range)) word }
-    ensures bits { Shows (held range) first (min count (held range)) word (ahead (held range) first word) result }
-{
-    let count = count.min(range.min(32));
-    let gone = clear_before(word, first, range);
-    if gone >= count {
-        return 0;
+    /// The bits of the range in a word, turned so that bit `first` comes first.
+    pub fn turn(self, word: u32, first: u8) -> u32
+        ensures is { result ≡ turned self.range first word }
+        ensures bits { Turned self.range first word result }
+    {
+        let word = low_bits(word, self.range);
+        if self.range == 0 {
+            return 0;
+        }
+        let first = first % self.range;
+        if first == 0 {
+            return word;
+        }
+        let low = low_bits(word, first);
+        (word >> first as u32) | (low << (self.range - first) as u32)
     }
-    low_bits(!(turn(word, first, range) >> gone as u32), count - gone)
+
+    /// The word that asks for offsets: each offset i of the range whose bit is set in `wanted` stands for the number `next` + i, modulo the range.
+    pub fn asking(self, wanted: u32, next: u8) -> u32
+        ensures is { result ≡ asked self.range next wanted }
+        ensures bits { Asks self.range next wanted result }
+    {
+        if self.range == 0 {
+            return 0;
+        }
+        self.turn(wanted, self.range - next % self.range)
+    }
+
+    /// How many bits are clear before the first set one, from bit `first` on and round the bits of the range; the range itself if none is set.
+    pub fn clear_before(self, word: u32, first: u8) -> u8
+        ensures is { result ≡ ahead self.range first word }
+        ensures nearest { Nearest self.range first word result }
+    {
+        self.turn(word, first)
+            .trailing_zeros()
+            .min(self.range as u32) as u8
+    }
+
+    /// The offsets below `count` whose bit is clear, counted from the first set bit past bit `first`: bit i of the answer stands for the i-th offset after that one.
+    ///
+    /// A count above the range is taken as the range.
+    pub fn clear_after(self, word: u32, first: u8, count: u8) -> u32
+        ensures is { result ≡ shown self.range first (min count self.range) word }
+        ensures bits { Shows self.range first (min count self.range) word (ahead self.range first word) result }
+    {
+        let count = count.min(self.range);
+        let gone = self.clear_before(word, first);
+        if gone >= count {
+            return 0;
+        }
+        low_bits(!(self.turn(word, first) >> gone as u32), count - gone)
+    }
 }
