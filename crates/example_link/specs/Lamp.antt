@@ -1,5 +1,5 @@
 -- What the lamp means as a link, and what each of its functions does.
-use Rattle.std.specs.Prelude.{◌≡◌, ℕ, zero, suc, Bool, true, cond, ◌&&◌, List, [], ◌∷◌, length, Some, None, Option, ◌==◌}
+use Rattle.std.specs.Prelude.{◌≡◌, ℕ, zero, suc, Bool, cond, ◌&&◌, List, [], ◌∷◌, length, Some, None, Option, ◌==◌}
 use Rattle.link.specs.declared.term.Window.{Window}
 use Rattle.link.specs.declared.answers.PollAnswer.{PollAnswer}
 use Rattle.link.specs.declared.answers.PollAnswer.TheVariants as poll
@@ -7,11 +7,6 @@ use Rattle.link.specs.declared.answers.Collected.{Collected}
 use Rattle.link.specs.declared.answers.Collected.TheVariants as collected
 use Rattle.link.specs.Bounds.{sound}
 use Rattle.link.specs.Meaning.{Out, Vector}
-
--- the numbers of a term, if one began, are within their bounds
-abbrev pub fits : Option Window → Bool
-fits None = true
-fits (Some w) = sound w
 
 -- the packets taken: one of the byte that it shows, if it shows one
 abbrev pub shown : Option ℕ → List (List ℕ)

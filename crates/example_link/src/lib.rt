@@ -1,22 +1,21 @@
 //! A small link of one's own: a lamp, which takes one packet of one byte in each term, and shows it.
 #![tactic(auto)]
 
-ghost use Rattle.std.specs.Prelude.{◌≡◌, ℕ, true, length, None};
-ghost use Rattle.example_link.specs.Lamp.{CollectedLamp, FetchedLamp, PolledLamp, RestartedLamp, SentLamp, fits, lamp, shown};
-ghost use Rattle.link.specs.Bounds.{sound};
+ghost use Rattle.std.specs.Prelude.{◌≡◌, ℕ, length, None};
+ghost use Rattle.example_link.specs.Lamp.{CollectedLamp, FetchedLamp, PolledLamp, RestartedLamp, SentLamp, lamp, shown};
+ghost use Rattle.link.specs.Numbered.{numbers_of, numbers_sound};
 ghost use Rattle.link.specs.Meaning.{Vector, outward, solo};
 ghost use Rattle.example_link.specs.Lamps.{send_law};
 ghost use Rattle.std.proofs.Common.{rules};
 
-use link::{Collected, Direction, Fetched, Link, Packet, PollAnswer, Window};
-use window::{asking, low_bits};
+use link::{Collected, Direction, Fetched, Link, Packet, PollAnswer, SoundWindow, Window};
+use window::{SequenceRange, low_bits};
 
 /// A lamp. Its pipe, number 0, is outward; a packet of one byte sets its brightness, once in a term.
 #[derive(Drop)]
 pub struct Lamp {
-    window: Option<Window>,
+    window: Option<SoundWindow>,
     shows: Option<u8>,
-    ghost fit: { fits window ≡ true },
 }
 
 impl Lamp {
@@ -42,33 +41,30 @@ impl Lamp {
     fn taken(&self) -> u8
         ensures { result ≡ length (shown self.now.shows) }
     {
-        match self.shows {
-            None => 0,
-            Some(_) => 1,
-        }
+        u8::from(self.shows.is_some())
     }
 
     /// The vector: all numbers of the window, since nothing is early.
-    fn vector(&self, window: Window) -> u32
-        requires { sound window ≡ true }
-        ensures { Vector window (length (shown self.now.shows)) (λ j. None) result }
+    fn vector(&self, window: SoundWindow) -> u32
+        ensures { Vector window.window (length (shown self.now.shows)) (λ j. None) result }
     {
-        asking(low_bits(u32::MAX, window.burst), self.taken(), window.range)
+        let window = window.get();
+        SequenceRange::new(window.range).asking(low_bits(u32::MAX, window.burst), self.taken())
     }
 }
 
 impl Link for Lamp {
-    ghost meaning = { λ s. solo (outward (lamp s.window s.shows)) };
+    ghost meaning = { λ s. solo (outward (lamp (numbers_of s.window) s.shows)) };
 
-    ghost restarted = { λ s p w t. RestartedLamp (lamp s.window s.shows) p w (lamp t.window t.shows) };
+    ghost restarted = { λ s p w t. RestartedLamp (lamp (numbers_of s.window) s.shows) p w (lamp (numbers_of t.window) t.shows) };
 
-    ghost polled = { λ s p b a t. PolledLamp (lamp s.window s.shows) a (lamp t.window t.shows) };
+    ghost polled = { λ s p b a t. PolledLamp (lamp (numbers_of s.window) s.shows) a (lamp (numbers_of t.window) t.shows) };
 
-    ghost fetched = { λ s p i a t. FetchedLamp (lamp s.window s.shows) a (lamp t.window t.shows) };
+    ghost fetched = { λ s p i a t. FetchedLamp (lamp (numbers_of s.window) s.shows) a (lamp (numbers_of t.window) t.shows) };
 
-    ghost sent = { λ s p n b t. SentLamp (lamp s.window s.shows) p n b (lamp t.window t.shows) };
+    ghost sent = { λ s p n b t. SentLamp (lamp (numbers_of s.window) s.shows) p n b (lamp (numbers_of t.window) t.shows) };
 
-    ghost collected = { λ s p a t. CollectedLamp (lamp s.window s.shows) p a (lamp t.window t.shows) };
+    ghost collected = { λ s p a t. CollectedLamp (lamp (numbers_of s.window) s.shows) p a (lamp (numbers_of t.window) t.shows) };
 
     ghost above = { Prim.search rules };
 
@@ -80,24 +76,23 @@ impl Link for Lamp {
 
     ghost fetching = { Prim.search rules };
 
-    ghost sending = { λ s t p n b h. send_law s.window s.shows _ p n b s.fit h };
+    ghost sending = { λ s t p n b h. send_law (numbers_of s.window) s.shows _ p n b (numbers_sound s.window) h };
 
     ghost collecting = { Prim.search rules };
 
     fn describe(&self, pipe: u8) -> Option<Direction> {
-        if pipe == 0 {
-            Some(Direction::Outward)
-        } else {
-            None
-        }
+        (pipe == 0).then_some(Direction::Outward)
     }
 
     fn restart(&mut self, pipe: u8, window: Window) {
-        if pipe == 0 && window.is_sound() {
-            *self = Lamp {
-                window: Some(window),
-                shows: None,
-            };
+        match SoundWindow::new(window) {
+            Some(window) if pipe == 0 => {
+                *self = Lamp {
+                    window: Some(window),
+                    shows: None,
+                }
+            }
+            _ => {}
         }
     }
 
@@ -121,12 +116,9 @@ impl Link for Lamp {
     }
 
     fn collect(&mut self, pipe: u8) -> Collected {
-        if pipe != 0 {
-            return Collected::Stall;
-        }
         match self.window {
-            None => Collected::Stall,
-            Some(window) => Collected::Vector(self.vector(window)),
+            Some(window) if pipe == 0 => Collected::Vector(self.vector(window)),
+            _ => Collected::Stall,
         }
     }
 }
