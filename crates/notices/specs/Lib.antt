@@ -1,4 +1,5 @@
 -- The root of the notices' definitions.
 pub mod Blocks
+pub mod Said
 pub mod Boards
 pub mod Law

@@ -1,9 +1,11 @@
 //! The calls on a notice buffer: making one, switching on, an arriving notice, taking the oldest.
 ghost use Rattle.std.specs.Prelude.{◌≡◌};
 ghost use Rattle.notices.specs.Boards.{board, Made, LentTo, switched, arriving, arrived, taking, taken};
+ghost use Rattle.notices.specs.Said.{said};
 
-use crate::block::{block_of, clear_valid, fits_block, wipe, write_block};
+use crate::block::{BUFFER, clear_valid, write_block};
 use crate::board::Notices;
+use crate::notice::Notice;
 use refusal::Refusal;
 use ring::Ring;
 
@@ -13,10 +15,10 @@ impl<'a> Notices<'a> {
         ensures value { Made buffer.old result }
         ensures lent { LentTo buffer.entry.ghost_name result }
     {
-        if buffer.len() != 4096 {
+        if buffer.len() != BUFFER {
             return Err(Refusal::WrongSize);
         }
-        wipe(buffer);
+        buffer.fill(0);
         Ok(Notices {
             buffer,
             ring: Ring::new(),
@@ -37,12 +39,12 @@ impl<'a> Notices<'a> {
 
 impl Notices<'_> {
     /// A notice arrives: the number of its block, or why it is refused.
-    pub fn arrive(&mut self, source: u8, key: Option<u32>, bytes: &[u8]) -> Result<usize, Refusal>
-        ensures answer { result ≡ arriving (board self.old) (record { source = source; key = key; bytes = bytes.now }) }
-        ensures after { board self.new ≡ arrived (board self.old) (record { source = source; key = key; bytes = bytes.now }) }
+    pub fn arrive(&mut self, notice: Notice<'_>) -> Result<usize, Refusal>
+        ensures answer { result ≡ arriving (board self.old) (said notice.entry) }
+        ensures after { board self.new ≡ arrived (board self.old) (said notice.entry) }
         ensures lent { self.new.buffer.ghost_name ≡ self.old.buffer.ghost_name }
     {
-        if !fits_block(key, bytes) {
+        if !notice.fits() {
             return Err(Refusal::BadNotice);
         }
         if !self.on {
@@ -53,7 +55,7 @@ impl Notices<'_> {
             self.overflow = true;
             return Err(Refusal::NoticesFull);
         };
-        write_block(self.buffer, block, &block_of(source, key, bytes));
+        write_block(self.buffer, block, &notice.block());
         Ok(block)
     }
 

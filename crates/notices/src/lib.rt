@@ -6,7 +6,9 @@ pub mod board;
 pub mod calls;
 pub mod law;
 pub mod looks;
+pub mod notice;
 
-pub use block::fits_block;
+pub use block::{BLOCK, BUFFER};
 pub use board::Notices;
 pub use law::each_once;
+pub use notice::Notice;

@@ -26,9 +26,6 @@ impl Notices<'_> {
         ensures { option_map (λ s. s.now) result ≡ seen (board self.now) number }
     {
         let at = number as usize * BLOCK;
-        if at + BLOCK > self.buffer.len() {
-            return None;
-        }
-        Some(&self.buffer[at..at + BLOCK])
+        self.buffer.get(at..at + BLOCK)
     }
 }

@@ -1,5 +1,5 @@
 //! The bounds of notices, and the wrap of the blocks.
-use notices::Notices;
+use notices::{BUFFER, Notice, Notices};
 use refusal::{Party, Refusal, Spot};
 use std::process::Abort;
 use std::test::*;
@@ -18,42 +18,59 @@ enum Act {
     Take,
     // Looks at a byte of a block.
     Byte(u8, usize),
-    // Looks whether notices are on (1) and overflow is marked (2).
+    // Looks whether notices are on, and whether overflow is marked.
     Marks,
 }
 
-// The block that was answered, or 100 and the number of the refusal.
-fn answered(res: Result<usize, Refusal>) -> usize {
-    match res {
-        Ok(block) => block,
-        Err(refusal) => 100 + refusal.number() as usize,
+// What came of it.
+#[derive(Clone, Copy, PartialEq, Eq, Debug)]
+enum Came {
+    // Nothing is answered.
+    Done,
+    // The block that was answered.
+    Block(usize),
+    // It was refused.
+    Refused(Refusal),
+    // The byte that is there, if there is such a block.
+    Byte(Option<u8>),
+    // Whether notices are on, and whether overflow is marked.
+    Marks(bool, bool),
+}
+
+impl From<Result<usize, Refusal>> for Came {
+    fn from(answer: Result<usize, Refusal>) -> Came {
+        match answer {
+            Ok(block) => Came::Block(block),
+            Err(refusal) => Came::Refused(refusal),
+        }
     }
 }
 
 // Does it, and says what came of it.
-fn done(notices: &mut Notices, act: Act) -> usize {
+fn done(notices: &mut Notices, act: Act) -> Came {
     match act {
         Act::On => {
             notices.switch_on();
-            0
+            Came::Done
         }
-        Act::Arrive(source, key, size) => answered(notices.arrive(
+        Act::Arrive(source, key, size) => Came::from(notices.arrive(Notice {
             source,
             key,
-            &BYTES[0..size.min(57)],
-        )),
-        Act::Take => answered(notices.take()),
-        Act::Byte(block, at) => match notices.block(block) {
-            Some(bytes) => bytes.get(at).copied().unwrap_or(255) as usize,
-            None => 999,
-        },
-        Act::Marks => notices.is_on() as usize + 2 * (notices.overflowed() as usize),
+            bytes: &BYTES[..size.min(57)],
+        })),
+        Act::Take => Came::from(notices.take()),
+        Act::Byte(block, at) => Came::Byte(
+            notices
+                .block(block)
+                .and_then(|bytes| bytes.get(at).copied()),
+        ),
+        Act::Marks => Came::Marks(notices.is_on(), notices.overflowed()),
     }
 }
 
 // Does one thing after another on a new buffer, and compares.
-fn compared(rt: &(impl Abort + Alloc), acts: &[(Act, usize)]) -> Result<(), Fail> {
-    let mut buffer = vec![in rt.alloc(); 7u8; 4096]?;
+fn compared(rt: &(impl Abort + Alloc), acts: &[(Act, Came)]) -> Result<(), Fail> {
+    let mut buffer = vec![in rt.alloc(); 7u8; BUFFER]?;
     match Notices::new(buffer.as_mut_slice()) {
         Ok(mut notices) => {
             for (act, expected) in acts {
@@ -67,11 +84,7 @@ fn compared(rt: &(impl Abort + Alloc), acts: &[(Act, usize)]) -> Result<(), Fail
 
 // The same so often, each with the next block as its answer.
 fn in_turn(notices: &mut Notices, act: Act, first: usize, many: usize) -> bool {
-    let mut good = true;
-    for i in 0..many {
-        good = good && done(notices, act) == first.wrapping_add(i) % 64;
-    }
-    good
+    (first..first.saturating_add(many)).all(|block| done(notices, act) == Came::Block(block % 64))
 }
 
 #[test]
@@ -83,10 +96,10 @@ fn sizes_of_the_lent_buffer(rt: HostRuntime) -> Result<(), Fail> {
     compared(
         &rt,
         &[
-            (Act::Byte(0, 0), 0),
-            (Act::Byte(63, 63), 0),
-            (Act::Byte(64, 0), 999),
-            (Act::Marks, 0),
+            (Act::Byte(0, 0), Came::Byte(Some(0))),
+            (Act::Byte(63, 63), Came::Byte(Some(0))),
+            (Act::Byte(64, 0), Came::Byte(None)),
+            (Act::Marks, Came::Marks(false, false)),
         ],
     )
 }
@@ -96,46 +109,50 @@ fn sizes_and_keys_of_notices(rt: HostRuntime) -> Result<(), Fail> {
     compared(
         &rt,
         &[
-            (Act::Arrive(1, None, 0), 114),
-            (Act::Arrive(1, None, 1), 115),
-            (Act::Take, 110),
-            (Act::On, 0),
-            (Act::Arrive(1, None, 1), 0),
-            (Act::Arrive(1, None, 56), 1),
-            (Act::Arrive(1, None, 57), 114),
-            (Act::Arrive(9, Some(16_777_215), 2), 2),
-            (Act::Arrive(9, Some(16_777_216), 2), 114),
-            (Act::Byte(0, 3), 0x80),
-            (Act::Byte(1, 0), 56),
-            (Act::Byte(1, 63), 3),
-            (Act::Byte(2, 2), 9),
-            (Act::Byte(2, 3), 0xc0),
-            (Act::Byte(2, 6), 255),
-            (Act::Byte(2, 7), 0),
-            (Act::Take, 0),
-            (Act::Byte(0, 3), 0),
+            (Act::Arrive(1, None, 0), Came::Refused(Refusal::BadNotice)),
+            (Act::Arrive(1, None, 1), Came::Refused(Refusal::NoticesOff)),
+            (Act::Take, Came::Refused(Refusal::NothingThere)),
+            (Act::On, Came::Done),
+            (Act::Arrive(1, None, 1), Came::Block(0)),
+            (Act::Arrive(1, None, 56), Came::Block(1)),
+            (Act::Arrive(1, None, 57), Came::Refused(Refusal::BadNotice)),
+            (Act::Arrive(9, Some(16_777_215), 2), Came::Block(2)),
+            (
+                Act::Arrive(9, Some(16_777_216), 2),
+                Came::Refused(Refusal::BadNotice),
+            ),
+            (Act::Byte(0, 3), Came::Byte(Some(0x80))),
+            (Act::Byte(1, 0), Came::Byte(Some(56))),
+            (Act::Byte(1, 63), Came::Byte(Some(3))),
+            (Act::Byte(2, 2), Came::Byte(Some(9))),
+            (Act::Byte(2, 3), Came::Byte(Some(0xc0))),
+            (Act::Byte(2, 6), Came::Byte(Some(255))),
+            (Act::Byte(2, 7), Came::Byte(Some(0))),
+            (Act::Take, Came::Block(0)),
+            (Act::Byte(0, 3), Came::Byte(Some(0))),
         ],
     )
 }
 
 #[test]
 fn full_and_round(rt: HostRuntime) -> Result<(), Fail> {
-    let mut buffer = vec![in rt.alloc(); 0u8; 4096]?;
+    let mut buffer = vec![in rt.alloc(); 0u8; BUFFER]?;
     match Notices::new(buffer.as_mut_slice()) {
         Ok(mut notices) => {
-            let good = done(&mut notices, Act::On) == 0
+            let good = done(&mut notices, Act::On) == Came::Done
                 && in_turn(&mut notices, Act::Arrive(5, None, 2), 0, 64)
-                && done(&mut notices, Act::Arrive(6, None, 2)) == 116
-                && done(&mut notices, Act::Marks) == 2
-                && done(&mut notices, Act::Byte(0, 2)) == 5
-                && done(&mut notices, Act::Arrive(6, None, 2)) == 115
+                && done(&mut notices, Act::Arrive(6, None, 2))
+                    == Came::Refused(Refusal::NoticesFull)
+                && done(&mut notices, Act::Marks) == Came::Marks(false, true)
+                && done(&mut notices, Act::Byte(0, 2)) == Came::Byte(Some(5))
+                && done(&mut notices, Act::Arrive(6, None, 2)) == Came::Refused(Refusal::NoticesOff)
                 && in_turn(&mut notices, Act::Take, 0, 3)
-                && done(&mut notices, Act::On) == 0
-                && done(&mut notices, Act::Marks) == 1
+                && done(&mut notices, Act::On) == Came::Done
+                && done(&mut notices, Act::Marks) == Came::Marks(true, false)
                 && in_turn(&mut notices, Act::Arrive(6, Some(1), 2), 0, 3)
-                && done(&mut notices, Act::Byte(0, 3)) == 0xc0
+                && done(&mut notices, Act::Byte(0, 3)) == Came::Byte(Some(0xc0))
                 && in_turn(&mut notices, Act::Take, 3, 64)
-                && done(&mut notices, Act::Take) == 110;
+                && done(&mut notices, Act::Take) == Came::Refused(Refusal::NothingThere);
             assert!(rt; good);
             Ok(())
         }
