@@ -1,12 +1,10 @@
 -- What the lamp does at a Send is what the clause of Send allows.
-use Rattle.std.specs.Prelude.{◌≡◌, ℕ, zero, suc, ◌≤◌, Bool, true, false, cond, List, [], ◌∷◌, length, is_some, Some, None, Option, nat_lt, slice_index, slice_index_or, refl}
+use Rattle.std.specs.Prelude.{◌≡◌, ℕ, zero, suc, ◌≤◌, Bool, true, false, cond, List, [], ◌∷◌, length, Some, None, Option, nat_lt, slice_index_or, refl}
 use Rattle.std.proofs.Common.{sym, ap, subst, ◌∙◌, inl, inr, arith}
 use Rattle.std.proofs.Math.Nat.{zero-mod}
 use Rattle.std.proofs.lemmas.Bool.Decides.{nat_tests}
 use Rattle.link.specs.declared.term.Window.{Window}
-use Rattle.link.specs.declared.term.SoundWindow.{SoundWindow}
 use Rattle.link.specs.Bounds.{sound, sounds}
-use Rattle.link.specs.Numbered.{numbers_of}
 use Rattle.link.specs.Meaning.{Out, outward, solo, beside, Follows, Kept, Keeps, Sends, Only}
 use Rattle.link.proofs.Solo.{only_zero, unchanged}
 use Rattle.link.proofs.Sound.{sized, burst_least}
@@ -52,17 +50,3 @@ pub send_law : (n : Option Window) (x : Option ℕ) (q : Out) (p s : ℕ) (b : L
     → Sends (solo (outward (lamp n x)) p) s b (solo (outward q) p) × Only p (solo (outward (lamp n x))) (solo (outward q))
 send_law n x q zero s b h d = (sends n x q s b h d, only_zero (outward (lamp n x)) (outward q))
 send_law n x q (suc p) s b h d = unchanged (λ y z. Sends y s b z) (outward (lamp n x)) (outward q) (suc p) (ap outward d) refl
-
--- a Send that lights the lamp
-lit_at : (w : Window) (b : List ℕ) → length b ≡ 1 → SentLamp (lamp (Some w) None) 0 0 b (lamp (Some w) (Some (slice_index b 0)))
-lit_at w [] l = absurd (let f : ⊥ = omega arith in f)
-lit_at w (x ∷ []) l = refl
-lit_at w (x ∷ y ∷ r) l = absurd (let f : ⊥ = omega arith in f)
-
-pub lit : (n : Option SoundWindow) (x : Option ℕ) (p s : ℕ) (b : List ℕ) → p ≡ 0 → is_some n ≡ true → is_some x ≡ false → s ≡ 0 → length b ≡ 1
-    → SentLamp (lamp (numbers_of n) x) p s b (lamp (numbers_of n) (Some (slice_index b 0)))
-lit None x p s b e h d z l = let c : ◌≡◌ {A = ℕ} 0 1 = cc in absurd (let f : ⊥ = omega arith in f)
-lit (Some w) (Some y) p s b e h d z l = let c : ◌≡◌ {A = ℕ} 0 1 = cc in absurd (let f : ⊥ = omega arith in f)
-lit (Some w) None p s b e h d z l =
-    subst (λ v. SentLamp (lamp (Some w.window) None) v s b (lamp (Some w.window) (Some (slice_index b 0)))) (sym e)
-    (subst (λ v. SentLamp (lamp (Some w.window) None) 0 v b (lamp (Some w.window) (Some (slice_index b 0)))) (sym z) (lit_at w.window b l))

@@ -1,8 +1,6 @@
--- How the bytes of a block are put together, and how a buffer takes one.
-use Rattle.std.proofs.Common.{◌≡◌, ℕ, ◌+◌, ◌-◌, ◌/◌, ◌%◌, List, [], ◌∷◌, ◌++◌, length, take, drop, replicate, sym, ap, ◌∙◌, div-one, arith}
+-- How the bytes of a block are put together.
+use Rattle.std.proofs.Common.{◌≡◌, ℕ, ◌-◌, ◌/◌, ◌%◌, List, [], ◌∷◌, ◌++◌, length, take, replicate, sym, ap, ◌∙◌, div-one}
 use Rattle.std.specs.Int.{w32, to_le_bytes}
-use borrow.Rule.Slice.PartMut.{put_mid}
-use Rattle.std.proofs.lemmas.List.{drop-drop}
 use Rattle.notices.specs.Blocks.{Notice, block_of, flags, key_number, key_byte}
 
 -- the low three bytes of a key's number
@@ -22,8 +20,3 @@ made n f k key bytes rest ef ek ey eb er =
     ∙ ap (λ x. length n.bytes ∷ 0 ∷ n.source ∷ x ∷ key_byte n.key 0 ∷ key_byte n.key 1 ∷ key_byte n.key 2 ∷ 0 ∷ (bytes ++ rest)) ef
     ∙ ap (λ x. length n.bytes ∷ 0 ∷ n.source ∷ flags n.key ∷ key_byte n.key 0 ∷ key_byte n.key 1 ∷ key_byte n.key 2 ∷ 0 ∷ (x ++ rest)) eb
     ∙ ap (λ x. length n.bytes ∷ 0 ∷ n.source ∷ flags n.key ∷ key_byte n.key 0 ∷ key_byte n.key 1 ∷ key_byte n.key 2 ∷ 0 ∷ (n.bytes ++ x)) er
-
-pub pasted : (a : ℕ) (xs ys zs : List ℕ) → ys ≡ zs → put_mid a (a + 64 - a) xs ys ≡ take a xs ++ (zs ++ drop (a + 64) xs)
-pasted a xs ys zs e =
-    let k : a + 64 - a ≡ 64 = omega arith in
-    ap (λ n. put_mid a n xs ys) k ∙ ap (λ l. take a xs ++ (l ++ drop 64 (drop a xs))) e ∙ ap (λ l. take a xs ++ (zs ++ l)) (drop-drop 64 a xs)

@@ -3,8 +3,7 @@ use Rattle.std.proofs.Common.{◌≡◌, ℕ, zero, suc, ◌+◌, ◌-◌, ◌*�
 use native.Mathlib.Nat.{div-eq_of_lt, mul-add-mod_self_right, mod-eq-sub-mod}
 use lib.Pow.{mod-mod-pow}
 use lib.Count.{count_trailing_zeros, under}
-use lib.Bits.{bit_and, bit_or, or_shifted_r, and_mask}
-use Rattle.std.proofs.lemmas.Nat.{pow-add, mul-add-lt, one_shl, shl_whole, shr-shr, shr_high, field_of, pow_pos, mod_below, shr_below}
+use Rattle.std.proofs.lemmas.Nat.{pow-add, mul-add-lt, shr-shr, shr_high, field_of, pow_pos, shr_below}
 use Rattle.std.proofs.lemmas.Bool.{cases_lt}
 use Rattle.window.specs.Numbers.{bit}
 use Rattle.window.specs.Words.{swung, others}
@@ -102,18 +101,6 @@ unfolding count_trailing_zeros
 trailing_min zero k v h = omega arith
 trailing_min (suc m) zero v h = absurd (omega arith)
 trailing_min (suc m) (suc k) v h = under_min (v % 2) (count_trailing_zeros m (v / 2)) (count_trailing_zeros k (v / 2)) m (trailing_min m k (v / 2) (omega arith))
-
--- the turn as a word of 32 bits makes it
-pub word_swung : (v k m : ℕ) → m ≤ 32 → k < m → v < 2 ^ m
-    → bit_or (v / 2 ^ k) ((bit_and v ((1 * 2 ^ k) % 2 ^ 32 - 1) * 2 ^ (m - k)) % 2 ^ 32) ≡ swung m k v
-word_swung v k m m32 km h =
-    let e : m - k + k ≡ m = omega arith in
-    let small : v < 2 ^ (m - k + k) = rw e h in
-    let low : bit_and v ((1 * 2 ^ k) % 2 ^ 32 - 1) ≡ v % 2 ^ k = ap (λ x. bit_and v (x - 1)) (one_shl k 32 (omega arith)) ∙ and_mask v k in
-    let whole : (bit_and v ((1 * 2 ^ k) % 2 ^ 32 - 1) * 2 ^ (m - k)) % 2 ^ 32 ≡ v % 2 ^ k * 2 ^ (m - k) =
-    ap (λ x. (x * 2 ^ (m - k)) % 2 ^ 32) low ∙ shl_whole (v % 2 ^ k) k (m - k) 32 (mod_below v (2 ^ k) (pow_pos k)) (omega arith) in
-    ap (bit_or (v / 2 ^ k)) whole ∙ or_shifted_r (v % 2 ^ k) (m - k) (v / 2 ^ k) (shr_below v (m - k) k small)
-    ∙ add_comm (v % 2 ^ k * 2 ^ (m - k)) (v / 2 ^ k)
 
 -- of k bits either none is set, or there is a first one that is
 pub first_set : (k v : ℕ)
