@@ -114,12 +114,11 @@ impl Refusal {
     pub fn party(self) -> Party
         ensures { result ≡ party self }
     {
-        // By the number, since that is how the parties are told apart.
-        match u8::from(self) {
-            0..=2 => Party::SetUp,
-            3..=13 => Party::Driver,
-            14..=16 => Party::Device,
-            _ => Party::ImageSender,
+        match self {
+            Refusal::WrongSize | Refusal::NoSuchSet => Party::SetUp,
+            Refusal::BadNotice | Refusal::NoticesOff | Refusal::NoticesFull => Party::Device,
+            Refusal::ImageSize => Party::ImageSender,
+            _ => Party::Driver,
         }
     }
 
