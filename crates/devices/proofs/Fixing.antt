@@ -1,20 +1,20 @@
 -- Each call of a sink has one answer and one outcome.
-use Rattle.std.proofs.Common.{◌≡◌, ℕ, zero, suc, ◌^◌, ◌<◌, true, false, List, length, Some, None, vec_items, Option, sym, ap, ◌∙◌, subst, arith}
+use Rattle.std.proofs.Common.{◌≡◌, ℕ, zero, suc, ◌^◌, ◌<◌, true, false, List, length, Some, None, Option, sym, ap, ◌∙◌, subst, arith}
 use Rattle.std.proofs.lemmas.Bool.{both_ways}
 use Rattle.link.specs.declared.term.Window.{Window}
 use Rattle.link.specs.declared.answers.Collected.{Collected}
 use Rattle.link.specs.declared.answers.Collected.TheVariants as collected
-use Rattle.link.specs.Bounds.{sound}
+use Rattle.link.specs.Bounds.{sound, sounds}
 use Rattle.link.specs.Meaning.{Out, Meant, Kept, Vector}
 use Rattle.link.proofs.Fixed.{kept_same, vector_same}
 use Rattle.link.proofs.Solo.{solo_gapless}
 use Rattle.link.proofs.Sound.{range_twice, range_least}
 use Rattle.devices.specs.declared.since.Since.{Since}
 use Rattle.devices.specs.declared.since.Since.TheVariants.{Nothing, Lacking, Otherwise}
-use Rattle.reader.specs.Restarted.{sounds}
 use Rattle.devices.specs.Sinking.{SinkPipe, Sent, nowhere, lacking, dropped, kept, short, SentIn, SinkSent, SinkRestarted, SinkCollected, CollectedIn, Answers}
 use Rattle.devices.specs.Fixed.{Word, SinksFixed, NoGaps, PlainInOrder}
-use Rattle.devices.specs.Keeping.{early_none}
+use Rattle.devices.specs.Keeping.{plain_none}
+use Rattle.devices.specs.Stored.{taken_in}
 use Rattle.devices.specs.Mods.{mod_near}
 
 sink_restart : (i j k : SinkPipe) (p : ℕ) (w : Window) → SinkRestarted i p w j → SinkRestarted i p w k → j ≡ k
@@ -103,4 +103,4 @@ pub no_gaps : NoGaps
 no_gaps s = solo_gapless _
 
 pub plain_in_order : PlainInOrder
-plain_in_order s e = early_none (vec_items s.ahead.room) s.ahead.slots (length (vec_items s.store.lengths)) (λ k n q. both_ways s.gathers e (s.ordered k n q))
+plain_in_order s e k = plain_none s.ahead (length (taken_in s.store)) k e

@@ -1,5 +1,5 @@
 -- The lemmas of this crate.
 pub mod Fixing
-pub mod Rooms
+pub mod Slots
 pub mod Steps
 pub mod Vectors

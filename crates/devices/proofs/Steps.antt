@@ -1,52 +1,103 @@
 -- A sink's Sends and Collects, by what its code finds.
-use Rattle.std.proofs.Common.{◌≡◌, ℕ, ◌<◌, ◌≤◌, Bool, true, false, List, length, Some, Option, sym, refl, ap, ◌∙◌, subst, arith}
+use Rattle.std.proofs.Common.{◌≡◌, ℕ, ◌+◌, ◌<◌, ◌≤◌, Bool, true, false, List, [], ◌∷◌, ◌++◌, is_some, length, Some, None, Option, sym, refl, ap, ◌∙◌, subst, arith}
+use Rattle.std.proofs.lemmas.Bool.{both_ways}
 use Rattle.link.specs.declared.term.Window.{Window}
-use Rattle.link.specs.Bounds.{sound}
-use Rattle.link.specs.Meaning.{Out, Meant, Kept, Vector}
+use Rattle.link.specs.declared.term.SoundWindow.{SoundWindow}
+use Rattle.link.specs.Numbered.{numbers_of}
+use Rattle.link.specs.Meaning.{Meant, Kept, Follows}
 use Rattle.link.specs.Terms.{bytes_of}
+use Rattle.link.proofs.Sound.{burst_most}
+use Rattle.devices.specs.declared.ahead.Ahead.{Ahead}
+use Rattle.devices.specs.declared.sink.Sink.{Sink}
 use Rattle.devices.specs.declared.since.Since.{Since}
 use Rattle.devices.specs.declared.since.Since.TheVariants.{Nothing, Otherwise}
-use Rattle.devices.specs.Since.{lacked_one}
+use Rattle.devices.specs.Early.{early_from, early_of, kept_at, packets}
+use Rattle.devices.specs.Stored.{taken_in, space_of, most_of}
 use Rattle.devices.specs.Taken.{lacks}
-use Rattle.reader.specs.Restarted.{sounds}
-use Rattle.devices.specs.Sinking.{SinkPipe, Sent, nowhere, lacking, dropped, kept, noted, short, SentIn, SinkSent, CollectedIn, SinkCollected, Answers}
+use Rattle.devices.specs.Waiting.{Waits, AllWait}
+use Rattle.devices.specs.Keeping.{after_waits, after_past, kept_first, kept_gather, waits_of}
+use Rattle.devices.specs.Since.{lacked_one}
+use Rattle.devices.specs.Sinks.{sink_at, sink_of}
+use Rattle.devices.specs.Sinking.{SinkPipe, Sent, lacking, dropped, kept, noted, short, SentIn, CollectedIn, SinkCollected, Answers}
 use Rattle.link.specs.declared.answers.Collected.{Collected}
-use Rattle.link.specs.declared.answers.Collected.TheVariants as collected
 
-pub sound_of : (n : Option Window) (w : Window) → n ≡ Some w → sounds n ≡ true → sound w ≡ true
-sound_of n w e h = subst (λ v. sounds v ≡ true) e h
+-- a sink that was restarted with the numbers of v
+module _ (s : Sink) (v : SoundWindow) (is : s.window ≡ Some v) where
+  abbrev t : List (List ℕ)
+  t = taken_in s.store
 
--- f and t as the code has them
-module _ (w : Window) (k : SinkPipe) (s : ℕ) (b : List ℕ) (f t : ℕ) (ef : f ≡ length k.out.taken) (et : t ≡ bytes_of k.out.taken) where
-  pub step_long : w.packet < length b → Sent w k s b (noted Otherwise k)
-  step_long l = nowhere (λ j m h. let z : ⊥ = omega arith in z) refl
+  abbrev space : ℕ
+  space = space_of s.store
 
-  pub step_nowhere : ((j : ℕ) → Meant w f k.out.early s j → ⊥) → Sent w k s b (noted Otherwise k)
-  step_nowhere h = nowhere (λ j m l. h j (subst (λ v. Meant w v k.out.early s j) (sym ef) m)) refl
+  abbrev most : ℕ
+  most = most_of s.store
 
-  module _ (j : ℕ) (m : Meant w f k.out.early s j) (l : length b ≤ w.packet) (r : Bool) (e : r ≡ lacks k.space k.most w.packet t f j (length b)) where
-    pub is_short : r ≡ short w k j (length b)
-    is_short = e ∙ ap (λ v. lacks k.space k.most w.packet v f j (length b)) et ∙ ap (λ v. lacks k.space k.most w.packet (bytes_of k.out.taken) v j (length b)) ef
+  numbers : numbers_of s.window ≡ Some v.window
+  numbers = ap numbers_of is
 
-    pub meant_at : Meant w (length k.out.taken) k.out.early s j
-    meant_at = subst (λ v. Meant w v k.out.early s j) ef m
+  -- what waits ahead, under its own name and the numbers of v
+  pub waiting_now : (a : Option Ahead) → s.ahead ≡ a → AllWait (Some v.window) t space most (early_of a)
+  waiting_now a q = subst (λ x. AllWait (Some v.window) t space most (early_of x)) q (subst (λ n. AllWait n t space most (early_of s.ahead)) numbers s.waiting)
 
-    pub step_lacking : r ≡ true → Sent w k s b (noted (lacked_one k.since) k)
-    step_lacking x = lacking j meant_at l (sym is_short ∙ x) refl
+  pub waiting_then : (a : Option Ahead) (t' : List (List ℕ)) (space' most' : ℕ) → s.ahead ≡ a → AllWait (Some v.window) t' space' most' (early_of a)
+      → AllWait (numbers_of s.window) t' space' most' (early_of s.ahead)
+  waiting_then a t' space' most' q h = subst (λ x. AllWait (numbers_of s.window) t' space' most' (early_of x)) (sym q) (subst (λ n. AllWait n t' space' most' (early_of a)) (sym numbers) h)
 
-    pub step_dropped : r ≡ false → k.gathers ≡ false → (j ≡ f → ⊥) → Sent w k s b (noted Otherwise k)
-    step_dropped x y n = dropped j meant_at l (sym is_short ∙ x) y (let z : f < j = omega (arith, m.from, n) in subst (λ v. v < j) ef z) refl
+  -- a Send of at most P bytes that stands for packet j; w is the window as code has it, r whether the packet lacks space
+  module _ (w : Window) (same_w : w ≡ v.window) (number : ℕ) (b : List ℕ) (j : ℕ) (m : Meant v.window (length t) (sink_of s).out.early number j) (small_w : length b ≤ w.packet)
+      (r : Bool) (lacks_w : r ≡ lacks space most w.packet (bytes_of t) (length t) j (length b)) where
+    small : length b ≤ v.window.packet
+    small = subst (λ x. length b ≤ x.packet) same_w small_w
 
-    pub step_kept : (n : SinkPipe) → r ≡ false → (k.gathers ≡ false → j ≡ f) → Kept k.out j b n.out → n.gathers ≡ k.gathers → n.space ≡ k.space → n.most ≡ k.most → n.since ≡ Otherwise → Sent w k s b n
-    step_kept n x y q o u v z = kept j meant_at l (sym is_short ∙ x) (λ d. y d ∙ ef) q o u v z
+    lacks_is : r ≡ short v.window (sink_of s) j (length b)
+    lacks_is = lacks_w ∙ ap (λ x. lacks space most x.packet (bytes_of t) (length t) j (length b)) same_w
 
--- from what holds at the numbers to the pipe
-pub sent_at : (k l : SinkPipe) (p s : ℕ) (b : List ℕ) (w : Window) → p ≡ 0 → k.out.numbers ≡ Some w → Sent w k s b l → SinkSent k p s b l
-sent_at k l p s b w z e h = subst (λ q. SinkSent k q s b l) (sym z) (subst (λ n. SentIn n k s b l) (sym e) h)
+    sent : (l : SinkPipe) → Sent v.window (sink_of s) number b l → SentIn (numbers_of s.window) (sink_of s) number b l
+    sent l h = subst (λ n. SentIn n (sink_of s) number b l) (sym numbers) h
+
+    pub sent_lacking : r ≡ true → (c : Since) → c ≡ lacked_one s.since → SentIn (numbers_of s.window) (sink_of s) number b (noted c (sink_of s))
+    sent_lacking x c q = subst (λ d. SentIn (numbers_of s.window) (sink_of s) number b (noted d (sink_of s))) (sym q) (sent _ (lacking j m small (sym lacks_is ∙ x) refl))
+
+    pub sent_dropped : r ≡ false → s.ahead ≡ None → (j ≡ length t → ⊥) → SentIn (numbers_of s.window) (sink_of s) number b (noted Otherwise (sink_of s))
+    sent_dropped x none n = sent _ (dropped j m small (sym lacks_is ∙ x) (ap is_some none) (let l : length t < j = omega (arith, m.from, n) in l) refl)
+
+    -- packet f is taken, with those of e that follow
+    pub sent_first : (a : Option Ahead) (t' : List (List ℕ)) (space' most' : ℕ) → s.ahead ≡ a → r ≡ false → j ≡ length t → Follows (t ++ b ∷ []) (early_of a) t' → space' ≡ space → most' ≡ most
+        → SentIn (numbers_of s.window) (sink_of s) number b (sink_at (is_some s.ahead) (numbers_of s.window) t' (early_of s.ahead) space' most' Otherwise)
+    sent_first a t' space' most' q x same h es em =
+        sent _ (kept j m small (sym lacks_is ∙ x) (λ _. same)
+        (kept_first t t' b (early_of s.ahead) j same (subst (λ y. Follows (t ++ b ∷ []) (early_of y) t') (sym q) h) (numbers_of s.window)) refl es em refl)
+
+    -- a later packet waits ahead
+    waits_too : r ≡ false → Waits (Some v.window) t space most j b
+    waits_too x = waits_of v.window t space most j b m.within small (sym lacks_is ∙ x)
+
+    later : (j ≡ length t → ⊥) → length t < j
+    later n = omega (arith, m.from, n)
+
+    module _ (a k : Ahead) (q : s.ahead ≡ Some a) (x : r ≡ false) (n : j ≡ length t → ⊥) (kept_is : packets k ≡ kept_at j b (packets a)) where
+      pub waiting_after : AllWait (numbers_of s.window) t space most (packets k)
+      waiting_after =
+          subst (λ e. AllWait (numbers_of s.window) t space most e) (sym kept_is)
+          (subst (λ y. AllWait y t space most (kept_at j b (packets a))) (sym numbers) (after_waits (packets a) j b (Some v.window) t space most (waits_too x) (waiting_now (Some a) q)))
+
+      none_kept : kept_at j b (packets a) (length t) ≡ None
+      none_kept = after_past (packets a) j b (length t) (later n) (ap (λ y. early_of y (length t)) (sym q) ∙ s.past)
+
+      pub past_after : packets k (length t) ≡ None
+      past_after = ap (λ e. e (length t)) kept_is ∙ none_kept
+
+      near : (i : ℕ) (c : List ℕ) → packets a i ≡ Some c → i < length t + 16
+      near i c h = omega (arith, (waiting_now (Some a) q i c h).near, burst_most v.window v.within)
+
+      pub sent_ahead : SentIn (numbers_of s.window) (sink_of s) number b (sink_at true (numbers_of s.window) t (packets k) space most Otherwise)
+      sent_ahead =
+          sent _ (kept j m small (sym lacks_is ∙ x) (λ z. absurd (both_ways (is_some s.ahead) z (ap is_some q)))
+          (subst (λ e. Kept (sink_of s).out j b (record { numbers = numbers_of s.window; taken = t; early = early_from (length t) e })) (sym kept_is)
+          (subst (λ y. Kept (record { numbers = numbers_of s.window; taken = t; early = early_from (length t) (early_of y) }) j b (record { numbers = numbers_of s.window; taken = t; early = early_from (length t) (kept_at j b (packets a)) })) (sym q)
+          (kept_gather (packets a) j b t m.from (omega (arith, m.within, burst_most v.window v.within)) near (numbers_of s.window) none_kept)))
+          (sym (ap is_some q)) refl refl refl)
 
 pub collected_at : (k : SinkPipe) (p : ℕ) (a : Collected) (w : Window) (c : Since) → p ≡ 0 → k.out.numbers ≡ Some w → k.since ≡ c → Answers c w k.out a → SinkCollected k p a (noted Nothing k)
 collected_at k p a w c z e i h = subst (λ q. SinkCollected k q a (noted Nothing k)) (sym z)
     (subst (λ n. CollectedIn n k a (noted Nothing k)) (sym e) (subst (λ v. Answers v w k.out a) (sym i) h, refl))
-
-pub vector_at : (w : Window) (o : Out) (f v : ℕ) → f ≡ length o.taken → Vector w f o.early v → (u : ℕ) × Vector w (length o.taken) o.early u × (collected.Vector v ≡ collected.Vector u)
-vector_at w o f v e h = (v, subst (λ n. Vector w n o.early v) e h, refl)

@@ -1,7 +1,7 @@
 -- A vector made bit by bit.
-use Rattle.std.proofs.Common.{◌≡◌, ℕ, ◌+◌, ◌*◌, ◌%◌, ◌^◌, ◌<◌, ◌≤◌, true, false, List, is_some, Some, None, Option, sym, ap, ◌∙◌, subst, inl, inr, add-zero, mod-lt, pow-suc, add-one, arith, MatchOption}
+use Rattle.std.proofs.Common.{◌≡◌, ℕ, ◌+◌, ◌*◌, ◌%◌, ◌^◌, ◌<◌, ◌≤◌, true, false, List, is_some, Some, None, Option, sym, refl, ap, ◌∙◌, subst, inl, inr, add-zero, mod-lt, pow-suc, add-one, arith, MatchOption}
 use Rattle.std.proofs.lemmas.Nat.{one_shl}
-use Rattle.std.proofs.lemmas.Bool.{cases_lt, cases_order}
+use Rattle.std.proofs.lemmas.Bool.{both_ways, cases_lt, cases_order}
 use Rattle.link.specs.declared.term.Window.{Window}
 use Rattle.window.specs.Numbers.{bit}
 use Rattle.window.proofs.Bits.{bit_low, bit_high, bit_past}
@@ -69,12 +69,12 @@ module _ (w : Window) (f : ℕ) (early : ℕ → Option (List ℕ)) where
   }
 
   -- as a loop finds it
-  pub upto_then : (n v v' g : ℕ) (r : Option ℕ) → g ≡ f → MatchOption r ((j : ℕ) → Meant w g early n j → ⊥) (λ j. Meant w g early n j) → is_some r ≡ true
+  pub upto_then : (n v v' : ℕ) (r : Option ℕ) → MatchOption r ((j : ℕ) → Meant w f early n j → ⊥) (λ j. Meant w f early n j) → is_some r ≡ true
       → Upto w f early n v → v' ≡ v + 1 * 2 ^ n % 2 ^ 32 → n < 32 → Upto w f early (n + 1) v'
-  upto_then n v v' g None x h e u q l = let z : ◌≡◌ {A = ℕ} 0 1 = cc in absurd (let y : ⊥ = omega arith in y)
-  upto_then n v v' g (Some j) x h e u q l = subst (λ t. Upto w f early (n + 1) t) (sym (q ∙ ap (λ t. v + t) (one_shl n 32 l))) (upto_set n v j u (subst (λ t. Meant w t early n j) x h))
+  upto_then n v v' None x h u q l = absurd (both_ways false refl h)
+  upto_then n v v' (Some j) x h u q l = subst (λ t. Upto w f early (n + 1) t) (sym (q ∙ ap (λ t. v + t) (one_shl n 32 l))) (upto_set n v j u x)
 
-  pub upto_else : (n v v' g : ℕ) (r : Option ℕ) → g ≡ f → MatchOption r ((j : ℕ) → Meant w g early n j → ⊥) (λ j. Meant w g early n j) → is_some r ≡ false
+  pub upto_else : (n v v' : ℕ) (r : Option ℕ) → MatchOption r ((j : ℕ) → Meant w f early n j → ⊥) (λ j. Meant w f early n j) → is_some r ≡ false
       → Upto w f early n v → v' ≡ v → Upto w f early (n + 1) v'
-  upto_else n v v' g None x h e u q = subst (λ t. Upto w f early (n + 1) t) (sym q) (upto_skip n v u (λ j m. h j (subst (λ t. Meant w t early n j) (sym x) m)))
-  upto_else n v v' g (Some j) x h e u q = let z : ◌≡◌ {A = ℕ} 0 1 = cc in absurd (let y : ⊥ = omega arith in y)
+  upto_else n v v' None x h u q = subst (λ t. Upto w f early (n + 1) t) (sym q) (upto_skip n v u x)
+  upto_else n v v' (Some j) x h u q = absurd (both_ways true h refl)

@@ -1,9 +1,11 @@
 -- The packets of a store.
-use Rattle.std.specs.Prelude.{◌≡◌, ℕ, suc, ◌+◌, ◌≤◌, List, [], ◌∷◌, ◌++◌, length, take, drop, refl}
-use Rattle.std.proofs.Common.{ap, ◌∙◌, arith, length-drop, length-take}
+use Rattle.std.specs.Prelude.{◌≡◌, ℕ, suc, ◌+◌, ◌≤◌, List, [], ◌∷◌, ◌++◌, length, take, drop, vec_items, vec_len, refl}
+use Rattle.std.proofs.Common.{sym, ap, ◌∙◌, arith, length-drop, length-take}
 use Rattle.std.proofs.lemmas.List.{take-append-drop, length-take-le, take_all, take-append-le, drop-append-le}
 use Rattle.link.specs.Terms.{bytes_of}
 use Rattle.reader.specs.Bytes.{flat, lengths_of, sum_of}
+use Rattle.devices.specs.declared.store.Store.{Store}
+use Rattle.devices.specs.Stored.{taken_in}
 use Rattle.devices.specs.Taken.{cut}
 
 pub length_cut : (bs ls : List ℕ) → length (cut bs ls) ≡ length ls
@@ -19,6 +21,10 @@ bytes_cut bs [] e = e
 bytes_cut bs (n ∷ ns) e =
     let r : sum_of ns ≡ length (drop n bs) = omega (arith, length-drop n bs) in
     omega (arith, bytes_cut (drop n bs) ns r, length-take n bs, length-drop n bs)
+
+pub bytes_push : (t : List (List ℕ)) (b : List ℕ) → bytes_of (t ++ b ∷ []) ≡ bytes_of t + length b
+bytes_push [] b = omega arith
+bytes_push (c ∷ t) b = omega (arith, bytes_push t b)
 
 pub cut_push : (bs ls b : List ℕ) → sum_of ls ≡ length bs → cut (bs ++ b) (ls ++ length b ∷ []) ≡ cut bs ls ++ b ∷ []
 cut_push bs [] b e =
@@ -49,3 +55,10 @@ lengths_cut bs (n ∷ ns) e =
     let r : sum_of ns ≡ length (drop n bs) = omega (arith, length-drop n bs) in
     let l : n ≤ length bs = omega arith in
     ap (λ k. k ∷ lengths_of (cut (drop n bs) ns)) (length-take-le n bs l) ∙ ap (λ t. n ∷ t) (lengths_cut (drop n bs) ns r)
+
+-- how much a store holds, by its vectors
+pub weighs : (s : Store) → bytes_of (taken_in s) ≡ vec_len s.bytes
+weighs s = bytes_cut (vec_items s.bytes) (vec_items s.lengths) s.whole ∙ sym s.bytes.ok.0
+
+pub counts : (s : Store) → length (taken_in s) ≡ vec_len s.lengths
+counts s = length_cut (vec_items s.bytes) (vec_items s.lengths) ∙ sym s.lengths.ok.0

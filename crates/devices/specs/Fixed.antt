@@ -6,7 +6,7 @@ use Rattle.link.specs.declared.answers.Collected.{Collected}
 use Rattle.link.specs.declared.answers.Collected.TheVariants as collected
 use Rattle.link.specs.Meaning.{Gapless, outward, solo}
 use Rattle.devices.specs.declared.sink.Sink.{Sink}
-use Rattle.reader.specs.Restarted.{sounds}
+use Rattle.link.specs.Bounds.{sounds}
 use Rattle.devices.specs.Sinking.{SinkPipe, SinkRestarted, SinkPolled, SinkFetched, SinkSent, SinkCollected}
 use Rattle.devices.specs.Sinks.{sink_of}
 
@@ -31,4 +31,4 @@ NoGaps = (s : Sink) → Gapless (solo (outward (sink_of s).out))
 
 -- a plain sink has nothing early
 abbrev pub PlainInOrder : Type 0
-PlainInOrder = (s : Sink) → s.gathers ≡ false → (j : ℕ) → (sink_of s).out.early j ≡ None
+PlainInOrder = (s : Sink) → (sink_of s).gathers ≡ false → (j : ℕ) → (sink_of s).out.early j ≡ None

@@ -1,12 +1,13 @@
 -- Packets taken one after another from those kept ahead.
 use Rattle.std.specs.Prelude.{◌≡◌, ℕ, ◌+◌, ◌-◌, ◌*◌, ◌<◌, ◌≤◌, List, [], ◌∷◌, ◌++◌, length, get_or, take, Some, None, Option, slice_index_or}
 use Rattle.std.proofs.Common.{sym, ap, subst, ◌∙◌, inl, inr, add-mul, one-mul, arith}
-use Rattle.std.specs.Option.{option_map}
 use Rattle.std.proofs.lemmas.List.{take_all, take-append-le, length_push, get_or_push, get_or_append_left}
 use Rattle.std.proofs.lemmas.Bool.{cases_lt}
+use Rattle.link.specs.declared.term.Window.{Window}
 use Rattle.link.specs.Meaning.{Follows}
-use Rattle.devices.specs.declared.held.Held.{Held}
-use Rattle.devices.specs.Early.{length_of, lookup, part, Spaced}
+use Rattle.reader.specs.Restarted.{size_of}
+use Rattle.devices.specs.Cutting.{bytes_push}
+use Rattle.devices.specs.Waiting.{AllWait}
 
 pub record Going (taken : List (List ℕ)) (e : ℕ → Option (List ℕ)) (t : List (List ℕ)) : Type 0 where
   pub long : length taken ≤ length t
@@ -34,23 +35,24 @@ module _ (t : List (List ℕ)) (e : ℕ → Option (List ℕ)) where
   going_all u g x = record { old = g.old; more = g.more; stops = x }
 
 -- one packet of at most the size more leaves space for the others
-pub spaced_more : (slots : List (Option Held)) (size bytes f space n bytes' f' space' : ℕ) → Spaced slots size bytes f space → n ≤ size → bytes' ≡ bytes + n → f' ≡ f + 1 → space' ≡ space → Spaced slots size bytes' f' space'
-spaced_more slots size bytes f space n bytes' f' space' s l a b c k m e h =
-    let d : k - f ≡ (k - f') + 1 = omega arith in
-    let p : (k - f) * size ≡ (k - f') * size + size = ap (λ v. v * size) d ∙ add-mul (k - f') 1 size ∙ ap (λ v. (k - f') * size + v) (one-mul size) in
-    let q : bytes + (k - f) * size + m ≤ space = s k m e (omega arith) in
-    omega arith
+pub waits_more : (n : Option Window) (t : List (List ℕ)) (space most : ℕ) (e : ℕ → Option (List ℕ)) (b : List ℕ) → AllWait n t space most e → length b ≤ size_of n
+    → AllWait n (t ++ b ∷ []) space most e
+waits_more n t space most e b h l k c q =
+    let x = h k c q in
+    let more : length (t ++ b ∷ []) ≡ length t + 1 = length_push t b in
+    record {
+      near = omega (arith, x.near, more);
+      fits = x.fits;
+      counted = x.counted;
+      spaced = λ m.
+          let d : k - length t ≡ (k - length (t ++ b ∷ [])) + 1 = omega arith in
+          let p : (k - length t) * size_of n ≡ (k - length (t ++ b ∷ [])) * size_of n + size_of n =
+          ap (λ v. v * size_of n) d ∙ add-mul (k - length (t ++ b ∷ [])) 1 (size_of n) ∙ ap (λ v. (k - length (t ++ b ∷ [])) * size_of n + v) (one-mul (size_of n)) in
+          omega (arith, x.spaced (omega (arith, m, more)), p, l, bytes_push t b);
+    }
 
-pub found_at : (room : List ℕ) (slots : List (Option Held)) (k n : ℕ) (b : List ℕ) → length_of slots k ≡ Some n → b ≡ part room k n → lookup room slots k ≡ Some b
-found_at room slots k n b e q = ap (λ v. option_map (λ m. part room k m) v) e ∙ ap Some (sym q)
-
-pub missing_at : (room : List ℕ) (slots : List (Option Held)) (k : ℕ) → length_of slots k ≡ None → lookup room slots k ≡ None
-missing_at room slots k e = ap (λ v. option_map (λ m. part room k m) v) e
-
--- what is kept from f on lies past f, if packet f is not kept
-pub past_free : (slots : List (Option Held)) (f : ℕ) → length_of slots f ≡ None → (k n : ℕ) → length_of slots k ≡ Some n → f ≤ k → f < k
-past_free slots f e k n q l = elim (cases_lt f k) [
-  | inl x ↦ x
-  | inr x ↦ (let same : k ≡ f = omega arith in let d : length_of slots f ≡ Some n = subst (λ v. length_of slots v ≡ Some n) same q in
-      let z : ◌≡◌ {A = ℕ} 0 1 = cc in absurd (let y : ⊥ = omega arith in y))
-]
+-- the same, where a store is known by what it holds and has space for
+pub waits_at : (n : Option Window) (t t' : List (List ℕ)) (space space' most most' : ℕ) (e : ℕ → Option (List ℕ)) → t' ≡ t → space' ≡ space → most' ≡ most
+    → AllWait n t space most e → AllWait n t' space' most' e
+waits_at n t t' space space' most most' e x y z h =
+    subst (λ v. AllWait n v space' most' e) (sym x) (subst (λ v. AllWait n t v most' e) (sym y) (subst (λ v. AllWait n t space v e) (sym z) h))

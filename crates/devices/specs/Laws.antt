@@ -1,21 +1,17 @@
 -- The sinks' steps meet the clauses.
-use Rattle.std.specs.Prelude.{◌≡◌, ℕ, zero, suc, ◌^◌, ◌<◌, ◌≤◌, Bool, true, false, cond, List, length, Some, None, Option, refl}
-use Rattle.std.proofs.Common.{sym, ap, subst, ◌∙◌, inl, inr, arith}
+use Rattle.std.specs.Prelude.{◌≡◌, ℕ, zero, suc, Bool, true, false, cond, List, Some, None, Option, refl}
+use Rattle.std.proofs.Common.{sym, ap, subst, ◌∙◌, inl, inr}
 use Rattle.link.specs.declared.term.Window.{Window}
 use Rattle.link.specs.declared.answers.PollAnswer.{PollAnswer}
 use Rattle.link.specs.declared.answers.PollAnswer.TheVariants as poll
 use Rattle.link.specs.declared.answers.Collected.{Collected}
 use Rattle.link.specs.Bounds.{sound}
 use Rattle.link.specs.Meaning.{Out, Pipe, absent, outward, solo, Only, Restarts, Polls, Fetches, Sends, Keeps, Collects, Shows, Tells}
-use Rattle.link.specs.Terms.{OutBounds, Ahead}
 use Rattle.link.proofs.Solo.{still_absent}
 use Rattle.link.proofs.Solo as one-pipe
 use Rattle.devices.specs.declared.since.Since.{Since}
 use Rattle.devices.specs.declared.since.Since.TheVariants.{Nothing, Lacking, Otherwise}
-use Rattle.reader.specs.Bytes.{sum_of}
-use Rattle.devices.specs.Taken.{cut}
 use Rattle.devices.specs.Sinking.{SinkPipe, Sent, nowhere, lacking, dropped, kept, SentIn, SinkSent, SinkRestarted, SinkPolled, SinkFetched, SinkCollected, CollectedIn, Answers, fresh}
-use Rattle.devices.specs.Cutting.{length_cut, bytes_cut}
 
 abbrev pipe : SinkPipe → ℕ → Pipe
 pipe k = solo (outward k.out)
@@ -71,16 +67,3 @@ collected_in (Some w) k l a e h = (answers_shows k.since w k.out a e h.0, ap (λ
 pub collect_law : (k l : SinkPipe) (p : ℕ) (a : Collected) → SinkCollected k p a l → Collects (pipe k p) a (pipe l p) × Only p (pipe k) (pipe l)
 collect_law k l zero a h = (collected_in k.out.numbers k l a refl h, only_zero k l)
 collect_law k l (suc p) a h = unchanged (λ x y. Collects x a y) k l (suc p) h.1 (subst (λ v. Collects absent v absent) (sym h.0) (tt, refl))
-
-pub out_bounds : (n : Option Window) (bs ls : List ℕ) (e : ℕ → Option (List ℕ)) (space most : ℕ) → sum_of ls ≡ length bs → length bs ≤ space → length ls ≤ most → space ≤ 2 ^ 24 → most ≤ 2 ^ 25
-    → ((j : ℕ) (b : List ℕ) → e j ≡ Some b → j < most) → ((j : ℕ) (b : List ℕ) → e j ≡ Some b → Ahead n (length ls) j b)
-    → OutBounds (record { numbers = n; taken = cut bs ls; early = e })
-out_bounds n bs ls e space most w a b c d h g = record {
-  bytes = omega (arith, bytes_cut bs ls w);
-  packets = omega (arith, length_cut bs ls);
-  early = λ j x q. omega (arith, h j x q);
-  ahead = λ j x q. subst (λ f. Ahead n f j x) (sym (length_cut bs ls)) (g j x q);
-}
-
-pub none_early : (C : Type 0) (b : List ℕ) → ◌≡◌ {A = Option (List ℕ)} None (Some b) → C
-none_early C b e = let z : ◌≡◌ {A = ℕ} 0 1 = cc in absurd (let f : ⊥ = omega arith in f)

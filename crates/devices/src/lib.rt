@@ -3,7 +3,6 @@
 
 mod ahead;
 pub mod fixed;
-mod held;
 mod settle;
 mod since;
 pub mod sink;

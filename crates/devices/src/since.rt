@@ -19,8 +19,7 @@ impl Since {
         ensures { result ≡ lacked_one self }
     {
         match self {
-            Since::Nothing => Since::Lacking,
-            Since::Lacking => Since::Lacking,
+            Since::Nothing | Since::Lacking => Since::Lacking,
             Since::Otherwise => Since::Otherwise,
         }
     }

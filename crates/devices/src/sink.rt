@@ -1,7 +1,9 @@
 //! A sink: one outward pipe that keeps packets in order, and perhaps ahead of order.
-ghost use Rattle.std.specs.Prelude.{◌≡◌, ℕ, ◌+◌, ◌-◌, ◌*◌, ◌<◌, ◌≤◌, true, length, Some, vec_len};
-ghost use Rattle.devices.specs.Early.{length_of};
-ghost use Rattle.reader.specs.Restarted.{burst_of, size_of, sounds};
+ghost use Rattle.std.specs.Prelude.{◌≡◌, length, None};
+ghost use Rattle.link.specs.Numbered.{numbers_of};
+ghost use Rattle.devices.specs.Early.{early_of};
+ghost use Rattle.devices.specs.Stored.{most_of, space_of, taken_in};
+ghost use Rattle.devices.specs.Waiting.{AllWait};
 
 pub mod carry;
 pub mod keep;
@@ -10,22 +12,15 @@ pub mod look;
 use crate::ahead::Ahead;
 use crate::since::Since;
 use crate::store::Store;
-use link::Window;
+use link::SoundWindow;
 
-/// One outward pipe: a plain sink keeps packets in order only, a gathering sink also packets ahead of order.
+/// One outward pipe: a plain sink keeps packets in order only, a gathering sink also packets ahead of order, in the room that it has for them.
 #[derive(Drop)]
 pub struct Sink {
-    gathers: bool,
     store: Store,
-    ahead: Ahead,
-    window: Option<Window>,
+    ahead: Option<Ahead>,
+    window: Option<SoundWindow>,
     since: Since,
-    ghost fit: { sounds window ≡ true },
-    ghost ordered: { (k n : ℕ) → length_of ahead.slots k ≡ Some n → gathers ≡ true },
-    ghost roomy: { gathers ≡ true → 57344 ≤ length ahead.room.items },
-    ghost near: { (k n : ℕ) → length_of ahead.slots k ≡ Some n → k < vec_len store.lengths + burst_of window },
-    ghost fits: { (k n : ℕ) → length_of ahead.slots k ≡ Some n → n ≤ size_of window },
-    ghost counted: { (k n : ℕ) → length_of ahead.slots k ≡ Some n → k < store.most },
-    ghost spaced: { (k n : ℕ) → length_of ahead.slots k ≡ Some n → vec_len store.lengths ≤ k → vec_len store.bytes + (k - vec_len store.lengths) * size_of window + n ≤ store.space },
-    ghost past: { (k n : ℕ) → length_of ahead.slots k ≡ Some n → vec_len store.lengths ≤ k → vec_len store.lengths < k },
+    ghost waiting: { AllWait (numbers_of window) (taken_in store) (space_of store) (most_of store) (early_of ahead) },
+    ghost past: { early_of ahead (length (taken_in store)) ≡ None },
 }

@@ -1,5 +1,5 @@
 -- The reader's polls and fetches, on its one pipe.
-use Rattle.std.specs.Prelude.{◌≡◌, ℕ, zero, suc, ◌+◌, ◌-◌, ◌*◌, ◌^◌, ◌<◌, ◌≤◌, min, Bool, true, false, cond, List, [], ◌∷◌, length, take, drop, Some, None, Option, ◌≢◌, nat_lt, refl}
+use Rattle.std.specs.Prelude.{◌≡◌, ℕ, zero, suc, ◌+◌, ◌-◌, ◌*◌, ◌^◌, ◌<◌, ◌≤◌, min, Bool, true, false, cond, List, [], ◌∷◌, length, take, drop, Some, None, vec_items, Option, ◌≢◌, nat_lt, refl}
 use Rattle.std.proofs.Common.{sym, ap, subst, ◌∙◌, ⊎_elim, inl, inr, arith, length-drop, length-take}
 use Rattle.std.proofs.lemmas.List.{drop-drop, drop-take, take-take, take_all}
 use Rattle.std.proofs.lemmas.Bool.{cond-true, cond-false, lt-ltb, le-ltb, cases_lt}
@@ -16,22 +16,17 @@ use Rattle.link.specs.declared.answers.PollAnswer.{PollAnswer}
 use Rattle.link.specs.declared.answers.PollAnswer.TheVariants.{Data, NotReady, Silence}
 use Rattle.link.proofs.Cuts.{none_left, some_left, rest_add, count_rest, none_allowed, beyond_allowed, is_allowed, packets_few}
 use Rattle.reader.specs.declared.cursor.Cursor.{Cursor}
-use Rattle.reader.specs.declared.seek.Sought.{Sought}
+use Rattle.reader.specs.declared.cursor.Place.{Place}
 use Rattle.reader.specs.Reading.{text_at, Stands, messages, less, pipe_at}
-use Rattle.reader.specs.Restarted.{sounds}
 use Rattle.reader.specs.Walks.{not_end, at_end, length_left, few_messages, same_many}
 use Rattle.reader.specs.Seeking.{Found, Missing}
-use Rattle.reader.specs.Readers.{ReaderPolled, ReaderFetched, ReaderRestarted, PolledIn, FetchedIn}
+use Rattle.link.specs.Numbered.{numbers_of}
+use Rattle.link.specs.declared.term.SoundWindow.{SoundWindow}
+use Rattle.reader.specs.declared.reader.Reader.{Reader}
+use Rattle.reader.specs.Readers.{ReaderPolled, ReaderFetched, ReaderRestarted, PolledIn, FetchedIn, pipe_of}
 
--- from what holds at the numbers to the pipe
-pub polled_at : (i j : In) (p : ℕ) (w : Window) (b : ℕ) (a : PollAnswer) → p ≡ 0 → i.numbers ≡ Some w → PolledIn (Some w) i b a j → ReaderPolled i p b a j
-polled_at i j p w b a z e h = subst (λ q. ReaderPolled i q b a j) (sym z) (subst (λ n. PolledIn n i b a j) (sym e) h)
-
-pub fetched_at : (i j : In) (p : ℕ) (w : Window) (k : ℕ) (a : Option (List ℕ)) → p ≡ 0 → i.numbers ≡ Some w → j ≡ i → FetchedIn (Some w) i k a → ReaderFetched i p k a j
-fetched_at i j p w k a z e s h = subst (λ q. ReaderFetched i q k a j) (sym z) (subst (λ n. FetchedIn n i k a) (sym e) h, s)
-
-module _ (bs ls : List ℕ) (w : Window) (b : ℕ) (s : Sought) (i : In)
-    (p : 0 < w.packet) (here : i.place ≡ s.place) (stands : text_at bs ls s.at ≡ rest w.packet i.text i.place) where
+module _ (bs ls : List ℕ) (w : Window) (b : ℕ) (s : Place) (i : In)
+    (p : 0 < w.packet) (here : i.place ≡ s.number) (stands : text_at bs ls s.at ≡ rest w.packet i.text i.place) where
   left_on : (d : ℕ) → rest w.packet (text_at bs ls s.at) d ≡ rest w.packet i.text (i.place + d)
   left_on d = ap (λ t. rest w.packet t d) stands ∙ rest_add w.packet i.text i.place d
 
@@ -44,22 +39,22 @@ module _ (bs ls : List ℕ) (w : Window) (b : ℕ) (s : Sought) (i : In)
         omega (arith, x.2, here, none_left w.packet i.text (i.place + x.0) p (sym (left_on x.0) ∙ x.1)),
   )
 
-  module _ (f : Sought) (x : Found bs ls w.packet w.range b s f) (in_count : i.place ≤ length (text_packets w.packet i.text)) where
-    pub found_text : text_at bs ls f.at ≡ rest w.packet i.text f.place
-    found_text = x.text ∙ left_on (f.place - s.place) ∙ ap (λ v. rest w.packet i.text v) (let e : i.place + (f.place - s.place) ≡ f.place = omega (arith, x.aim.from, here) in e)
+  module _ (f : Place) (x : Found bs ls w.packet w.range b s f) (in_count : i.place ≤ length (text_packets w.packet i.text)) where
+    pub found_text : text_at bs ls f.at ≡ rest w.packet i.text f.number
+    found_text = x.text ∙ left_on (f.number - s.number) ∙ ap (λ v. rest w.packet i.text v) (let e : i.place + (f.number - s.number) ≡ f.number = omega (arith, x.aim.from, here) in e)
 
-    pub found_count : f.place ≤ count w i
+    pub found_count : f.number ≤ count w i
     found_count = omega (arith, x.count, x.aim.from, here, ap (λ t. length (text_packets w.packet t)) stands ∙ count_rest w.packet i.text i.place p)
 
-    pub polled_data : (text_at bs ls f.at ≢ []) → PolledIn (Some w) i b Data (moved i f.place)
+    pub polled_data : (text_at bs ls f.at ≢ []) → PolledIn (Some w) i b Data (moved i f.number)
     polled_data h =
-        let l : f.place < count w i = some_left w.packet i.text f.place p (λ e. h (found_text ∙ e)) in
-        inr (f.place, subst (λ v. Aim w.range b v f.place) (sym here) x.aim, found_count, sym (cond-true (nat_lt f.place (count w i)) Data NotReady (lt-ltb f.place (count w i) l)), refl)
+        let l : f.number < count w i = some_left w.packet i.text f.number p (λ e. h (found_text ∙ e)) in
+        inr (f.number, subst (λ v. Aim w.range b v f.number) (sym here) x.aim, found_count, sym (cond-true (nat_lt f.number (count w i)) Data NotReady (lt-ltb f.number (count w i) l)), refl)
 
-    pub polled_end : text_at bs ls f.at ≡ [] → PolledIn (Some w) i b NotReady (moved i f.place)
+    pub polled_end : text_at bs ls f.at ≡ [] → PolledIn (Some w) i b NotReady (moved i f.number)
     polled_end h =
-        let l : count w i ≤ f.place = none_left w.packet i.text f.place p (sym found_text ∙ h) in
-        inr (f.place, subst (λ v. Aim w.range b v f.place) (sym here) x.aim, found_count, sym (cond-false (nat_lt f.place (count w i)) Data NotReady (le-ltb f.place (count w i) l)), refl)
+        let l : count w i ≤ f.number = none_left w.packet i.text f.number p (sym found_text ∙ h) in
+        inr (f.number, subst (λ v. Aim w.range b v f.number) (sym here) x.aim, found_count, sym (cond-false (nat_lt f.number (count w i)) Data NotReady (le-ltb f.number (count w i) l)), refl)
 
 take_both : (a b : ℕ) (xs : List ℕ) → take a (take b xs) ≡ take (min a b) xs
 take_both a b xs = ⊎_elim
@@ -73,53 +68,66 @@ part_of bs here left skip size h =
     ∙ ap (λ t. take size t) (drop-take skip (left - skip) (drop here bs) ∙ ap (λ t. take (left - skip) t) (drop-drop skip here bs))
     ∙ take_both size (left - skip) (drop (here + skip) bs)
 
--- The same of a reader's own fields.
-module _ (bs ls : List ℕ) (win : Option Window) (start at : Cursor) (place : ℕ) (w : Window) (e : win ≡ Some w) (fit : sounds win ≡ true)
-    (stands : text_at bs ls at ≡ unacknowledged win (text_at bs ls start) place) (reached : place ≤ total win (text_at bs ls start)) where
-  abbrev the_in : In
-  the_in = record { numbers = win; text = text_at bs ls start; place = place }
+-- The same of a reader that was restarted with the numbers of v.
+module _ (s : Reader) (v : SoundWindow) (e : s.window ≡ Some v) where
+  abbrev bs : List ℕ
+  bs = vec_items s.text.bytes
 
-  abbrev the_place : Sought
-  the_place = record { at = at; place = place }
+  abbrev ls : List ℕ
+  ls = vec_items s.text.lengths
+
+  abbrev w : Window
+  w = v.window
+
+  abbrev started : List (List ℕ)
+  started = text_at bs ls s.start
+
+  numbers : numbers_of s.window ≡ Some w
+  numbers = ap numbers_of e
 
   size_pos : 0 < w.packet
-  size_pos = sized w (subst (λ n. sounds n ≡ true) e fit)
+  size_pos = sized w v.within
 
-  stands_at : text_at bs ls at ≡ rest w.packet (text_at bs ls start) place
-  stands_at = stands ∙ ap (λ n. unacknowledged n (text_at bs ls start) place) e
+  stands_at : text_at bs ls s.place.at ≡ rest w.packet started s.place.number
+  stands_at = s.stands ∙ ap (λ n. unacknowledged n started s.place.number) numbers
 
-  reached_at : place ≤ length (text_packets w.packet (text_at bs ls start))
-  reached_at = subst (λ n. place ≤ total n (text_at bs ls start)) e reached
+  reached_at : s.place.number ≤ length (text_packets w.packet started)
+  reached_at = subst (λ n. s.place.number ≤ total n started) numbers s.reached
 
-  pub reader_missing : (p b : ℕ) → p ≡ 0 → Missing bs ls w.packet w.range b the_place → ReaderPolled the_in p b Silence the_in
-  reader_missing p b z m = polled_at the_in the_in p w b Silence z e (polled_missing bs ls w b the_place the_in size_pos refl stands_at m)
+  polled_at : (p b : ℕ) (a : PollAnswer) (j : In) → p ≡ 0 → PolledIn (Some w) (pipe_of s) b a j → ReaderPolled (pipe_of s) p b a j
+  polled_at p b a j z h = subst (λ q. ReaderPolled (pipe_of s) q b a j) (sym z) (subst (λ n. PolledIn n (pipe_of s) b a j) (sym numbers) h)
 
-  module _ (p b : ℕ) (f : Sought) (x : Found bs ls w.packet w.range b the_place f) where
-    pub stands_next : text_at bs ls f.at ≡ unacknowledged win (text_at bs ls start) f.place
-    stands_next = found_text bs ls w b the_place the_in size_pos refl stands_at f x reached_at ∙ ap (λ n. unacknowledged n (text_at bs ls start) f.place) (sym e)
+  fetched_at : (i : ℕ) (a : Option (List ℕ)) → FetchedIn (Some w) (pipe_of s) i a → FetchedIn (numbers_of s.window) (pipe_of s) i a
+  fetched_at i a h = subst (λ n. FetchedIn n (pipe_of s) i a) (sym numbers) h
 
-    pub reached_next : f.place ≤ total win (text_at bs ls start)
-    reached_next = subst (λ n. f.place ≤ total n (text_at bs ls start)) (sym e) (found_count bs ls w b the_place the_in size_pos refl stands_at f x reached_at)
+  pub reader_missing : (p b : ℕ) → p ≡ 0 → Missing bs ls w.packet w.range b s.place → ReaderPolled (pipe_of s) p b Silence (pipe_of s)
+  reader_missing p b z m = polled_at p b Silence (pipe_of s) z (polled_missing bs ls w b s.place (pipe_of s) size_pos refl stands_at m)
 
-    pub reader_data : p ≡ 0 → f.at.message < length ls → ReaderPolled the_in p b Data (moved the_in f.place)
-    reader_data z l = polled_at the_in _ p w b Data z e (polled_data bs ls w b the_place the_in size_pos refl stands_at f x reached_at (not_end bs ls f.at x.inside l))
+  module _ (p b : ℕ) (f : Place) (x : Found bs ls w.packet w.range b s.place f) where
+    pub stands_next : text_at bs ls f.at ≡ unacknowledged (numbers_of s.window) started f.number
+    stands_next = found_text bs ls w b s.place (pipe_of s) size_pos refl stands_at f x reached_at ∙ ap (λ n. unacknowledged n started f.number) (sym numbers)
 
-    pub reader_end : p ≡ 0 → length ls ≤ f.at.message → ReaderPolled the_in p b NotReady (moved the_in f.place)
-    reader_end z l = polled_at the_in _ p w b NotReady z e (polled_end bs ls w b the_place the_in size_pos refl stands_at f x reached_at (at_end bs ls f.at l))
+    pub reached_next : f.number ≤ total (numbers_of s.window) started
+    reached_next = subst (λ n. f.number ≤ total n started) (sym numbers) (found_count bs ls w b s.place (pipe_of s) size_pos refl stands_at f x reached_at)
 
-  pub fetch_none : (p i : ℕ) → p ≡ 0 → text_at bs ls at ≡ [] → ReaderFetched the_in p i None the_in
-  fetch_none p i z h = fetched_at the_in the_in p w i None z e refl (none_allowed w the_in i size_pos (sym stands_at ∙ h))
+    pub reader_data : p ≡ 0 → f.at.message < length ls → ReaderPolled (pipe_of s) p b Data (moved (pipe_of s) f.number)
+    reader_data z l = polled_at p b Data _ z (polled_data bs ls w b s.place (pipe_of s) size_pos refl stands_at f x reached_at (not_end bs ls f.at x.inside l))
 
-  module _ (p i left : ℕ) (s : Stands bs ls at left) where
-    pub fetch_beyond : p ≡ 0 → left < i * w.packet → ReaderFetched the_in p i None the_in
-    fetch_beyond z h = fetched_at the_in the_in p w i None z e refl
-        (beyond_allowed w the_in i size_pos _ _ (sym stands_at ∙ s.text) (omega (arith, h, length_left bs ls at left s)))
+    pub reader_end : p ≡ 0 → length ls ≤ f.at.message → ReaderPolled (pipe_of s) p b NotReady (moved (pipe_of s) f.number)
+    reader_end z l = polled_at p b NotReady _ z (polled_end bs ls w b s.place (pipe_of s) size_pos refl stands_at f x reached_at (at_end bs ls f.at l))
 
-    pub fetch_given : (got : List ℕ) (n : ℕ) → p ≡ 0 → i < w.burst → i * w.packet ≤ left → n ≡ min w.packet (left - i * w.packet)
-        → got ≡ take n (drop (at.here + i * w.packet) bs) → ReaderFetched the_in p i (Some got) the_in
-    fetch_given got n z l h k g = fetched_at the_in the_in p w i (Some got) z e refl
-        (subst (λ v. Allowed w the_in i v) (part_of bs at.here left (i * w.packet) w.packet h ∙ ap (λ v. take v (drop (at.here + i * w.packet) bs)) (sym k) ∙ sym g)
-        (is_allowed w the_in i size_pos _ _ (sym stands_at ∙ s.text) l (omega (arith, h, length_left bs ls at left s))))
+  pub fetch_none : (i : ℕ) → text_at bs ls s.place.at ≡ [] → FetchedIn (numbers_of s.window) (pipe_of s) i None
+  fetch_none i h = fetched_at i None (none_allowed w (pipe_of s) i size_pos (sym stands_at ∙ h))
+
+  module _ (i left : ℕ) (t : Stands bs ls s.place.at left) where
+    pub fetch_beyond : left < i * w.packet → FetchedIn (numbers_of s.window) (pipe_of s) i None
+    fetch_beyond h = fetched_at i None (beyond_allowed w (pipe_of s) i size_pos _ _ (sym stands_at ∙ t.text) (omega (arith, h, length_left bs ls s.place.at left t)))
+
+    pub fetch_given : (got : List ℕ) → i < w.burst → i * w.packet ≤ left
+        → got ≡ take (min w.packet (left - i * w.packet)) (drop (s.place.at.here + i * w.packet) bs) → FetchedIn (numbers_of s.window) (pipe_of s) i (Some got)
+    fetch_given got l h g = fetched_at i (Some got)
+        (subst (λ v. Allowed w (pipe_of s) i v) (part_of bs s.place.at.here left (i * w.packet) w.packet h ∙ sym g)
+        (is_allowed w (pipe_of s) i size_pos _ _ (sym stands_at ∙ t.text) l (omega (arith, h, length_left bs ls s.place.at left t))))
 
 -- The reader's steps meet the clauses.
 unmoved : (p : ℕ) (a b : In) → b ≡ a → Only p (solo (inward a)) (solo (inward b))
@@ -155,10 +163,6 @@ pub fetch_law : (i j : In) (p k : ℕ) (a : Option (List ℕ)) → ReaderFetched
 fetch_law i j zero k None h = ((tt, ap inward h.1), only_zero (inward i) (inward j))
 fetch_law i j zero k (Some bs) h = ((given_clause i.numbers i k bs h.0, ap inward h.1), only_zero (inward i) (inward j))
 fetch_law i j (suc p) k a h = (subst (λ v. Fetches absent k v absent) (sym h.0) (tt, refl), unmoved (suc p) i j h.1)
-
--- what is known of two slices holds of what they were made from
-pub at_both : (F : List ℕ → List ℕ → Type 0) (a c b d : List ℕ) → a ≡ c → b ≡ d → F a b → F c d
-at_both F a c b d e f h = subst (λ v. F c v) f (subst (λ v. F v b) e h)
 
 pub send_law : (i j : In) (p n : ℕ) (b : List ℕ) → j ≡ i → Sends (solo (inward i) p) n b (solo (inward j) p) × Only p (solo (inward i)) (solo (inward j))
 send_law i j zero n b e = (ap inward e, only_zero (inward i) (inward j))

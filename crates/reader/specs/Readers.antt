@@ -4,6 +4,7 @@ use Rattle.link.specs.declared.term.Window.{Window}
 use Rattle.link.specs.declared.answers.PollAnswer.{PollAnswer}
 use Rattle.link.specs.declared.answers.PollAnswer.TheVariants.{Data, NotReady, Stall, Silence}
 use Rattle.link.specs.Bounds.{sound}
+use Rattle.link.specs.Numbered.{numbers_of}
 use Rattle.link.specs.Meaning.{In, Aim, Allowed, unacknowledged, moved, count}
 use Rattle.link.specs.declared.answers.Collected.{Collected}
 use Rattle.link.specs.declared.answers.Collected.TheVariants as collected
@@ -12,7 +13,7 @@ use Rattle.reader.specs.Reading.{pipe_at}
 
 -- the pipe of a reader
 abbrev pub pipe_of : Reader → In
-pipe_of r = pipe_at r.window (vec_items r.bytes) (vec_items r.lengths) r.start r.place
+pipe_of r = pipe_at (numbers_of r.window) (vec_items r.text.bytes) (vec_items r.text.lengths) r.start r.place.number
 
 -- the pipe of a reader that was given these messages, before its first Restart
 abbrev pub given : List (List ℕ) → In

@@ -1,12 +1,6 @@
 -- The numbers of a pipe's last Restart, if there was one.
-use Rattle.std.specs.Prelude.{ℕ, Bool, true, Some, None, Option}
+use Rattle.std.specs.Prelude.{ℕ, Some, None, Option}
 use Rattle.link.specs.declared.term.Window.{Window}
-use Rattle.link.specs.Bounds.{sound}
-
--- they are within their bounds
-abbrev pub sounds : Option Window → Bool
-sounds None = true
-sounds (Some w) = sound w
 
 -- the packet size
 abbrev pub size_of : Option Window → ℕ

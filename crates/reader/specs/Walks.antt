@@ -9,7 +9,7 @@ use Rattle.reader.specs.Bytes.{flat, sum_of}
 use Rattle.link.specs.Text.{after, rest, text_packets}
 use Rattle.link.proofs.Cuts.{some_left}
 use Rattle.link.specs.Meaning.{Bit}
-use Rattle.reader.specs.declared.seek.Sought.{Sought}
+use Rattle.reader.specs.declared.cursor.Place.{Place}
 use Rattle.reader.specs.Seeking.{Found, Missing}
 use Rattle.reader.specs.declared.cursor.Cursor.{Cursor}
 use Rattle.reader.specs.Reading.{messages, less, text_at, Stands, Next}
@@ -98,25 +98,25 @@ next_long bs ls c n size s h z =
     }
 
 -- the cursor at stands d packets on from c, and none of those is wanted
-pub record Walked (bs ls : List ℕ) (P M b : ℕ) (c : Sought) (at : Cursor) (d : ℕ) : Type 0 where
+pub record Walked (bs ls : List ℕ) (P M b : ℕ) (c : Place) (at : Cursor) (d : ℕ) : Type 0 where
   pub text : text_at bs ls at ≡ rest P (text_at bs ls c.at) d
   pub count : d ≤ length (text_packets P (text_at bs ls c.at))
   pub inside : at.here ≤ length bs
   pub within : at.message ≤ length ls
-  pub small : c.place + d ≤ at.here + at.message
-  pub none : (j : ℕ) → c.place ≤ j → j < c.place + d → Bit b (j % M) → ⊥
+  pub small : c.number + d ≤ at.here + at.message
+  pub none : (j : ℕ) → c.number ≤ j → j < c.number + d → Bit b (j % M) → ⊥
 
-module _ (bs ls : List ℕ) (P M b : ℕ) (c : Sought) where
-  pub walked_none : c.at.here ≤ length bs → c.at.message ≤ length ls → c.place ≤ c.at.here + c.at.message → Walked bs ls P M b c c.at 0
+module _ (bs ls : List ℕ) (P M b : ℕ) (c : Place) where
+  pub walked_none : c.at.here ≤ length bs → c.at.message ≤ length ls → c.number ≤ c.at.here + c.at.message → Walked bs ls P M b c c.at 0
   walked_none i m s = record { text = refl; count = zero-le; inside = i; within = m; small = omega arith; none = λ j l h. absurd (let x : ⊥ = omega arith in x) }
 
   -- one packet more that is not wanted
-  more_none : (d : ℕ) → ((j : ℕ) → c.place ≤ j → j < c.place + d → Bit b (j % M) → ⊥) → (Bit b ((c.place + d) % M) → ⊥)
-      → (j : ℕ) → c.place ≤ j → j < c.place + d + 1 → Bit b (j % M) → ⊥
+  more_none : (d : ℕ) → ((j : ℕ) → c.number ≤ j → j < c.number + d → Bit b (j % M) → ⊥) → (Bit b ((c.number + d) % M) → ⊥)
+      → (j : ℕ) → c.number ≤ j → j < c.number + d + 1 → Bit b (j % M) → ⊥
   more_none d n here j l h x = ⊎_elim (λ below. n j l below x)
-      (λ above. let e : j ≡ c.place + d = omega arith in here (subst (λ k. Bit b (k % M)) e x)) (cases_lt j (c.place + d))
+      (λ above. let e : j ≡ c.number + d = omega arith in here (subst (λ k. Bit b (k % M)) e x)) (cases_lt j (c.number + d))
 
-  pub walked_more : (at n : Cursor) (d : ℕ) → 0 < P → Walked bs ls P M b c at d → Next bs ls P at n → (Bit b ((c.place + d) % M) → ⊥) → Walked bs ls P M b c n (d + 1)
+  pub walked_more : (at n : Cursor) (d : ℕ) → 0 < P → Walked bs ls P M b c at d → Next bs ls P at n → (Bit b ((c.number + d) % M) → ⊥) → Walked bs ls P M b c n (d + 1)
   walked_more at n d p k x none = record {
     text = x.text ∙ ap (λ t. after P t) k.text ∙ ap (λ v. rest P (text_at bs ls c.at) v) (sym (add-one d));
     count = omega (arith, some_left P (text_at bs ls c.at) d p (λ e. x.some (k.text ∙ e)));
@@ -126,25 +126,25 @@ module _ (bs ls : List ℕ) (P M b : ℕ) (c : Sought) where
     none = λ j l h. more_none d k.none none j l (omega arith);
   }
 
-  pub walked_found : (at : Cursor) (d : ℕ) → Walked bs ls P M b c at d → Bit b ((c.place + d) % M) → Found bs ls P M b c (record { at = at; place = c.place + d })
+  pub walked_found : (at : Cursor) (d : ℕ) → Walked bs ls P M b c at d → Bit b ((c.number + d) % M) → Found bs ls P M b c (record { at = at; number = c.number + d })
   walked_found at d k x = record {
     aim = record { from = omega arith; set = x; first = k.none };
-    text = k.text ∙ ap (λ v. rest P (text_at bs ls c.at) v) (let e : d ≡ c.place + d - c.place = omega arith in e);
+    text = k.text ∙ ap (λ v. rest P (text_at bs ls c.at) v) (let e : d ≡ c.number + d - c.number = omega arith in e);
     count = omega (arith, k.count);
     inside = k.inside;
     within = k.within;
     small = k.small;
   }
 
-  pub walked_end : (at : Cursor) (d : ℕ) → Walked bs ls P M b c at d → text_at bs ls at ≡ [] → (Bit b ((c.place + d) % M) → ⊥) → Missing bs ls P M b c
-  walked_end at d k e none a x = (d, sym k.text ∙ e, ⊎_elim (λ l. l) (λ g. absurd (more_none d k.none none a x.from (omega arith) x.set)) (cases_lt (c.place + d) a))
+  pub walked_end : (at : Cursor) (d : ℕ) → Walked bs ls P M b c at d → text_at bs ls at ≡ [] → (Bit b ((c.number + d) % M) → ⊥) → Missing bs ls P M b c
+  walked_end at d k e none a x = (d, sym k.text ∙ e, ⊎_elim (λ l. l) (λ g. absurd (more_none d k.none none a x.from (omega arith) x.set)) (cases_lt (c.number + d) a))
 
   pub walked_all : (at : Cursor) (d : ℕ) → Walked bs ls P M b c at d → M ≤ d → 0 < M → Missing bs ls P M b c
   walked_all at d k far r a x =
-      let e : ℕ = (a - c.place) % M in
-      let l : e < M = mod_below (a - c.place) M r in
-      let q : (c.place + e) % M ≡ a % M = add-mod-mod c.place (a - c.place) M ∙ ap (λ v. v % M) (let s : c.place + (a - c.place) ≡ a = omega (arith, x.from) in s) in
-      absurd (k.none (c.place + e) (omega arith) (omega arith) (subst (λ v. Bit b v) (sym q) x.set))
+      let e : ℕ = (a - c.number) % M in
+      let l : e < M = mod_below (a - c.number) M r in
+      let q : (c.number + e) % M ≡ a % M = add-mod-mod c.number (a - c.number) M ∙ ap (λ v. v % M) (let s : c.number + (a - c.number) ≡ a = omega (arith, x.from) in s) in
+      absurd (k.none (c.number + e) (omega arith) (omega arith) (subst (λ v. Bit b v) (sym q) x.set))
 
 pub text_start : (bs ls cs ms : List ℕ) → bs ≡ cs → ls ≡ ms → text_at bs ls (record { message = 0; spent = 0; here = 0 }) ≡ messages cs ms
 unfolding text_at
@@ -155,29 +155,16 @@ pub flat_messages : (bs ls : List ℕ) → flat (messages bs ls) ≡ take (sum_o
 flat_messages bs [] = refl
 flat_messages bs (n ∷ ns) = ap (λ t. take n bs ++ t) (flat_messages (drop n bs) ns) ∙ sym (take-add n (sum_of ns) bs)
 
--- what a loop over the later messages has counted, each sum cut at most
-pub counted_less : (k : ℕ) (ls : List ℕ) (m most many : ℕ) → m < length ls → many ≡ min (slice_index ls m - k) most
-    → (min (many + sum_of (drop (m + 1) ls)) most ≡ min (sum_of (less k (drop m ls))) most) × (many ≤ most)
-counted_less k ls m most many l e =
-    let q : sum_of (less k (drop m ls)) ≡ slice_index ls m - k + sum_of (drop (m + 1) ls) = ap (λ t. sum_of (less k t)) (drop_more ls m 0 l) in
-    (omega arith, omega arith)
-
-pub counted_more : (ls : List ℕ) (i most many next total : ℕ) → i < length ls → next ≡ min (many + slice_index ls i) most
-    → min (many + sum_of (drop i ls)) most ≡ total → many ≤ most → (min (next + sum_of (drop (i + 1) ls)) most ≡ total) × (next ≤ most)
-counted_more ls i most many next total l e h m =
-    let q : sum_of (drop i ls) ≡ slice_index ls i + sum_of (drop (i + 1) ls) = ap sum_of (drop_more ls i 0 l) in
-    (omega arith, omega arith)
-
-pub counted_all : (bs ls : List ℕ) (c : Cursor) (i many : ℕ) → c.here ≤ length bs → length ls ≤ i
-    → min (many + sum_of (drop i ls)) (length bs - c.here) ≡ min (sum_of (less c.spent (drop c.message ls))) (length bs - c.here)
-    → many ≤ length bs - c.here → take many (drop c.here bs) ≡ flat (text_at bs ls c)
-unfolding text_at
-counted_all bs ls c i many inside l h m =
+-- what is left of a message, with the lengths of the later ones, takes in all that is left
+pub counted_all : (bs ls : List ℕ) (c : Cursor) (left many : ℕ) → Stands bs ls c left → many ≡ min (left + sum_of (drop (c.message + 1) ls)) (length bs - c.here)
+    → take many (drop c.here bs) ≡ flat (text_at bs ls c)
+counted_all bs ls c left many s e =
     let xs = drop c.here bs in
-    let ns = less c.spent (drop c.message ls) in
-    let z : sum_of (drop i ls) ≡ 0 = ap sum_of (drop_all i ls l) in
-    let e : many ≡ min (sum_of ns) (length bs - c.here) = omega arith in
-    ap (λ v. take v xs) (e ∙ ap (λ v. min (sum_of ns) v) (sym (length-drop c.here bs))) ∙ sym (take_min (sum_of ns) xs) ∙ sym (flat_messages xs ns)
+    let ns = drop (c.message + 1) ls in
+    ap (λ v. take v xs) (e ∙ ap (λ v. min (left + sum_of ns) v) (sym (length-drop c.here bs))) ∙ sym (take_min (left + sum_of ns) xs)
+    ∙ take-add left (sum_of ns) xs
+    ∙ ap (λ t. take left xs ++ take (sum_of ns) t) (drop-drop left c.here bs)
+    ∙ sym (ap flat s.text ∙ ap (λ t. take left xs ++ t) (flat_messages (drop (c.here + left) bs) ns))
 
 pub few_messages : (bs ls : List ℕ) → length (messages bs ls) ≡ length ls
 few_messages bs [] = refl

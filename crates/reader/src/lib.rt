@@ -4,7 +4,7 @@
 mod cursor;
 pub mod fixed;
 pub mod reader;
-mod seek;
+mod text;
 
 pub use fixed::reader_fixed;
 pub use reader::Reader;

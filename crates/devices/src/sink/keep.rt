@@ -1,38 +1,34 @@
 //! What a sink keeps, and the vector that says so.
-ghost use Rattle.std.specs.Prelude.{◌≡◌, ℕ, Some, vec_len, MatchOption};
-ghost use Rattle.devices.specs.Early.{early_from};
-ghost use Rattle.devices.specs.Sinking.{Sent};
+ghost use Rattle.std.specs.Prelude.{ℕ, length, MatchOption};
+ghost use Rattle.devices.specs.Sinking.{SentIn};
 ghost use Rattle.devices.specs.Sinks.{sink_of};
 ghost use Rattle.link.specs.Meaning.{Meant, Vector};
+ghost use Rattle.link.specs.Numbered.{numbers_of};
 
 use crate::settle::settle;
 use crate::since::Since;
 use crate::sink::Sink;
 use crate::standing::standing;
-use link::Window;
+use link::SoundWindow;
 
 impl Sink {
     /// The packet that a sequence number stands for, unless it is kept already.
-    fn meant(&self, window: Window, number: u8) -> Option<usize>
-        requires { self.now.window ≡ Some window }
-        ensures { MatchOption result ((j : ℕ) → Meant window (vec_len self.now.store.lengths) (early_from (vec_len self.now.store.lengths) self.now.ahead.room.items self.now.ahead.slots) number j → ⊥) (λ j. Meant window (vec_len self.now.store.lengths) (early_from (vec_len self.now.store.lengths) self.now.ahead.room.items self.now.ahead.slots) number j) }
+    fn meant(&self, window: SoundWindow, number: u8) -> Option<usize>
+        ensures { MatchOption result ((j : ℕ) → Meant window.window (length (sink_of self.now).out.taken) (sink_of self.now).out.early number j → ⊥) (λ j. Meant window.window (length (sink_of self.now).out.taken) (sink_of self.now).out.early number j) }
     {
-        match standing(self.store.count(), window, number) {
-            None => None,
-            Some(j) => match self.ahead.held(j) {
-                None => Some(j),
-                Some(_) => None,
-            },
+        let j = standing(self.store.count(), window, number)?;
+        match &self.ahead {
+            Some(ahead) if ahead.packet(j).is_some() => None,
+            _ => Some(j),
         }
     }
 
     /// The numbers that are still wanted: those of the window, except early ones.
-    pub(crate) fn vector(&self, window: Window) -> u32
-        requires { self.now.window ≡ Some window }
-        ensures { Vector window (vec_len self.now.store.lengths) (early_from (vec_len self.now.store.lengths) self.now.ahead.room.items self.now.ahead.slots) result }
+    pub(crate) fn vector(&self, window: SoundWindow) -> u32
+        ensures { Vector window.window (length (sink_of self.now).out.taken) (sink_of self.now).out.early result }
     {
         let mut bits = 0;
-        for number in 0..window.range {
+        for number in 0..window.get().range {
             if self.meant(window, number).is_some() {
                 bits += 1u32 << number;
             }
@@ -40,32 +36,31 @@ impl Sink {
         bits
     }
 
-    /// Takes in one Send of a restarted pipe.
-    pub(crate) fn receive(&mut self, window: Window, number: u8, bytes: &[u8])
-        requires { self.old.window ≡ Some window }
-        ensures { Sent window (sink_of self.old) number bytes.now (sink_of self.new) }
+    /// Takes in one Send.
+    pub(crate) fn receive(&mut self, number: u8, bytes: &[u8])
+        ensures { SentIn (numbers_of self.old.window) (sink_of self.old) number bytes.now (sink_of self.new) }
     {
-        if bytes.len() > window.packet as usize {
-            self.since = Since::Otherwise;
+        let Some(window) = self.window else {
+            return;
+        };
+        let since = self.since;
+        self.since = Since::Otherwise;
+        let size = window.get().packet;
+        if bytes.len() > size as usize {
             return;
         }
-        match self.meant(window, number) {
-            None => self.since = Since::Otherwise,
-            Some(j) => {
-                if self.store.lacks_space(window.packet, j, bytes.len()) {
-                    let since = self.since.lacked_one();
-                    self.since = since;
-                } else if j == self.store.count() {
-                    self.store.append(bytes);
-                    settle(&mut self.store, &self.ahead, window.packet);
-                    self.since = Since::Otherwise;
-                } else if self.gathers {
-                    self.ahead.keep(j, bytes);
-                    self.since = Since::Otherwise;
-                } else {
-                    self.since = Since::Otherwise;
-                }
+        let Some(j) = self.meant(window, number) else {
+            return;
+        };
+        if self.store.lacks_space(size, j, bytes.len()) {
+            self.since = since.lacked_one();
+        } else if j == self.store.count() {
+            self.store.append(bytes);
+            if let Some(ahead) = &self.ahead {
+                settle(&mut self.store, ahead, window);
             }
+        } else if let Some(ahead) = &mut self.ahead {
+            ahead.keep(j, bytes);
         }
     }
 }

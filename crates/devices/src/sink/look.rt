@@ -1,8 +1,9 @@
 //! Making a sink, and looking at what it took.
+ghost use Rattle.devices.specs.Early.{early_of};
 ghost use Rattle.devices.specs.Sinking.{unused};
 ghost use Rattle.devices.specs.Sinks.{sink_of};
 ghost use Rattle.reader.specs.Bytes.{flat, lengths_of};
-ghost use Rattle.std.specs.Prelude.{◌≡◌, true, false, IfOk};
+ghost use Rattle.std.specs.Prelude.{◌≡◌, true, false, is_some, None, IfOk};
 
 use crate::ahead::Ahead;
 use crate::since::Since;
@@ -16,13 +17,7 @@ impl Sink {
     pub fn plain(heap: Global, space: usize, most: usize) -> Result<Sink, AllocError>
         ensures { IfOk result (λ s. sink_of s ≡ unused false space most) }
     {
-        Ok(Sink {
-            gathers: false,
-            store: Store::new(heap, space, most)?,
-            ahead: Ahead::none(heap),
-            window: None,
-            since: Since::Nothing,
-        })
+        Sink::unrestarted(heap, space, most, None)
     }
 
     /// A sink that keeps also packets ahead of order, with space for so many bytes and packet lengths, of which as many count as a term may have.
@@ -30,10 +25,22 @@ impl Sink {
     pub fn gathering(heap: Global, space: usize, most: usize) -> Result<Sink, AllocError>
         ensures { IfOk result (λ s. sink_of s ≡ unused true space most) }
     {
+        Sink::unrestarted(heap, space, most, Some(Ahead::new(heap)?))
+    }
+
+    // A sink before its first Restart, with this room for early packets, if any.
+    fn unrestarted(
+        heap: Global,
+        space: usize,
+        most: usize,
+        ahead: Option<Ahead>,
+    ) -> Result<Sink, AllocError>
+        requires { early_of ahead ≡ (λ k. None) }
+        ensures { IfOk result (λ s. sink_of s ≡ unused (is_some ahead) space most) }
+    {
         Ok(Sink {
-            gathers: true,
             store: Store::new(heap, space, most)?,
-            ahead: Ahead::new(heap)?,
+            ahead,
             window: None,
             since: Since::Nothing,
         })

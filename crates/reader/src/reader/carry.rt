@@ -1,12 +1,12 @@
 //! The reader as a link.
 ghost use Rattle.reader.specs.Readers.{ReaderCollected, ReaderFetched, ReaderPolled, ReaderRestarted, ReaderSent, pipe_of};
 ghost use Rattle.link.specs.Meaning.{inward, solo};
+ghost use Rattle.link.specs.Numbered.{numbers_of};
 ghost use Rattle.link.proofs.Solo.{above_one};
 ghost use Rattle.reader.specs.Pipes.{restart_law, poll_law, fetch_law, send_law, collect_law, bounds_reader};
 
 use crate::reader::Reader;
-use crate::seek::{Sought, seek};
-use link::{Collected, Direction, Fetched, Link, Packet, PollAnswer, Window};
+use link::{Collected, Direction, Fetched, Link, Packet, PollAnswer, SoundWindow, Window};
 
 impl Link for Reader {
     ghost meaning = { λ s. solo (inward (pipe_of s)) };
@@ -23,7 +23,7 @@ impl Link for Reader {
 
     ghost above = { λ s p h. above_one _ p h };
 
-    ghost bounds = { λ s p. bounds_reader s.window s.bytes.items s.lengths.items s.start s.place s.few s.short p };
+    ghost bounds = { λ s p. bounds_reader (numbers_of s.window) s.text.bytes.items s.text.lengths.items s.start s.place.number s.text.few s.text.short p };
 
     ghost restarting = { λ s t p w h. restart_law _ _ p w h };
 
@@ -36,80 +36,43 @@ impl Link for Reader {
     ghost collecting = { λ s t p a h. collect_law _ _ p a h.0 h.1 };
 
     fn describe(&self, pipe: u8) -> Option<Direction> {
-        if pipe == 0 {
-            Some(Direction::Inward)
-        } else {
-            None
-        }
+        (pipe == 0).then_some(Direction::Inward)
     }
 
     fn restart(&mut self, pipe: u8, window: Window) {
-        if pipe == 0 && window.is_sound() {
-            self.window = Some(window);
-            self.start = self.at;
-            self.place = 0;
+        match SoundWindow::new(window) {
+            Some(window) if pipe == 0 => {
+                self.window = Some(window);
+                self.start = self.place.at;
+                self.place.number = 0;
+            }
+            _ => {}
         }
     }
 
     fn poll(&mut self, pipe: u8, wanted: u32) -> PollAnswer {
-        if pipe != 0 {
-            return PollAnswer::Stall;
-        }
-        match self.window {
-            None => PollAnswer::Stall,
-            Some(window) => {
-                let from = Sought {
-                    at: self.at,
-                    place: self.place,
-                };
-                match seek(
-                    self.bytes.as_slice(),
-                    self.lengths.as_slice(),
-                    window,
-                    from,
-                    wanted,
-                ) {
-                    None => PollAnswer::Silence,
-                    Some(found) => {
-                        self.at = found.at;
-                        self.place = found.place;
-                        if found.at.message < self.lengths.len() {
-                            PollAnswer::Data
-                        } else {
-                            PollAnswer::NotReady
-                        }
-                    }
-                }
-            }
+        let window = match self.window {
+            Some(window) if pipe == 0 => window,
+            _ => return PollAnswer::Stall,
+        };
+        let Some(found) = self.text.seek(window, self.place, wanted) else {
+            return PollAnswer::Silence;
+        };
+        self.place = found;
+        if found.at.message < self.text.count() {
+            PollAnswer::Data
+        } else {
+            PollAnswer::NotReady
         }
     }
 
     fn fetch(&mut self, pipe: u8, offset: u8, into: &mut Packet) -> Fetched {
-        if pipe != 0 {
-            return Fetched::Lost;
-        }
-        match self.window {
-            None => Fetched::Lost,
-            Some(window) => {
-                if offset >= window.burst {
-                    return Fetched::Lost;
-                }
-                match self.at.left(self.bytes.as_slice(), self.lengths.as_slice()) {
-                    None => Fetched::Lost,
-                    Some(left) => {
-                        let size = window.packet as usize;
-                        let skip = offset as usize * size;
-                        if skip > left {
-                            return Fetched::Lost;
-                        }
-                        let from = self.at.here + skip;
-                        let many = size.min(left - skip);
-                        let bytes = self.bytes.as_slice();
-                        let _ = into.fill(&bytes[from..from + many]);
-                        Fetched::Packet
-                    }
-                }
+        match self.packet(offset) {
+            Some(packet) if pipe == 0 => {
+                into.fill(packet).unwrap();
+                Fetched::Packet
             }
+            _ => Fetched::Lost,
         }
     }
 

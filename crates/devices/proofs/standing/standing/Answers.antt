@@ -1,9 +1,10 @@
 -- A number stands for the packet at its distance from the first that is wanted.
-use Rattle.devices.specs.Mods.{stands_at, stands_not}
+use Rattle.std.proofs.Common.{ℕ, None, MatchOption, subst}
+use Rattle.link.specs.Meaning.{Meant}
+use Rattle.devices.specs.Mods.{stands}
 use Rattle.devices.proofs.standing.standing.Goals as goal
 
-pub returns-then-ahead-window : goal.returns-then-ahead-window
-returns-then-ahead-window c = stands_at c.args.window c.args.taken c.args.number c.requires.window c.if-number-window.false c.if-ahead-window.true
-
-pub returns-else-ahead-window : goal.returns-else-ahead-window
-returns-else-ahead-window c = stands_not c.args.window c.args.taken c.args.number c.requires.window c.if-number-window.false c.if-ahead-window.false
+pub returns : goal.returns
+returns c =
+    subst (λ w. MatchOption c.then_some.result ((j : ℕ) → Meant w c.args.taken (λ k. None) c.args.number j → ⊥) (λ j. Meant w c.args.taken (λ k. None) c.args.number j)) c.get-window.ensures.value
+    (stands c.get-window.result c.args.taken c.args.number c.get-window.ensures.within c.if-number-window.false c.then_some.result c.then_some.ensures)

@@ -5,4 +5,4 @@ use Rattle.reader.specs.Walks.{text_start}
 use Rattle.reader.proofs.reader.Reader.new.Goals as goal
 
 pub returns : goal.returns
-returns c = ap given (text_start _ _ _ _ c.truncate.ensures.items c.truncate-2.ensures.items)
+returns c = ap given (text_start _ _ _ _ c.new.ensures.bytes c.new.ensures.lengths)

@@ -6,4 +6,4 @@ use Rattle.reader.proofs.reader.Reader.unsent_messages.Goals as goal
 pub returns : goal.returns
 returns c =
     let s = c.args.self.now in
-    ap (λ v. v - s.at.message) (c.len.ensures ∙ s.lengths.ok.0) ∙ sym (messages_left (vec_items s.bytes) (vec_items s.lengths) s.at) ∙ ap length s.stands
+    ap (λ v. v - s.place.at.message) c.count.ensures ∙ sym (messages_left (vec_items s.text.bytes) (vec_items s.text.lengths) s.place.at) ∙ ap length s.stands

@@ -1,28 +1,46 @@
 -- After a Restart nothing is held.
-use Rattle.std.proofs.Common.{◌≡◌, ℕ, ◌≤◌, true, length, vec_items, sym, ◌∙◌, subst, rules}
+use Rattle.std.proofs.Common.{◌≡◌, Bool, true, false, cond, is_some, length, Some, None, sym, ap, ◌∙◌, subst}
+use Rattle.link.specs.declared.term.Window.{Window}
 use Rattle.link.specs.Bounds.{sound}
-use Rattle.devices.specs.Keeping.{never, nothing_held, restarted_empty}
+use Rattle.devices.specs.declared.since.Since.TheVariants.{Nothing}
+use Rattle.devices.specs.Early.{early_of}
+use Rattle.devices.specs.Keeping.{never, none_waits, restarted_empty}
+use Rattle.devices.specs.Sinking.{SinkRestarted}
+use Rattle.devices.specs.Sinks.{sink_at, sink_of}
+use Rattle.devices.specs.Stored.{taken_in, space_of, most_of}
 use Rattle.devices.proofs.sink.carry.SinkLink.restart.Goals as goal
+use Rattle.devices.proofs.sink.carry.SinkLink.restart.Goals.{in-Some-ahead, in_default-ahead}
+
+-- the window that was found sound is the one given
+same_window : (v w : Window) (b : Bool) → Some v ≡ cond b (Some w) None → v ≡ w
+same_window v w true h = cc
+same_window v w false h = absurd (never Window v (sym h))
 
 pub invariant_of-self : goal.invariant_of-self
 invariant_of-self c =
     let s = c.args.self.now in
-    let a = c.clear-then-is_sound.ensures in
-    let h = nothing_held c.clear-then-is_sound.new.self.slots a.slots in
-    let q : sound c.args.window ≡ true = search rules in
+    let t = c.clear.new.self in
+    let none : early_of c.match-self.self.1.1.0 ≡ (λ k. None) = elim c.match-self.branch [
+      | in-Some-ahead w ↦ ap (λ x. early_of x.1.1.0) w.self-is ∙ w.clear-in-Some-ahead.ensures
+      | in_default-ahead w ↦ ap (λ x. early_of x.1.1.0) w.self-is ∙ ap early_of w.in_default-ahead.is
+    ] in
     record {
-      fit = q;
-      ordered = λ k n e. absurd (never ℕ n (sym (h k) ∙ e));
-      roomy = λ e. subst (λ v. 57344 ≤ length (vec_items v)) (sym a.room) (s.roomy e);
-      near = λ k n e. absurd (never ℕ n (sym (h k) ∙ e));
-      fits = λ k n e. absurd (never ℕ n (sym (h k) ∙ e));
-      counted = λ k n e. absurd (never ℕ n (sym (h k) ∙ e));
-      spaced = λ k n e l. absurd (never ℕ n (sym (h k) ∙ e));
-      past = λ k n e l. absurd (never ℕ n (sym (h k) ∙ e));
+      waiting = none_waits (Some c.in-Some.window.window) (taken_in t) (space_of t) (most_of t) (early_of c.match-self.self.1.1.0) none;
+      past = ap (λ e. e (length (taken_in t))) none;
     }
 
-pub returns-then-is_sound : goal.returns-then-is_sound
-returns-then-is_sound c =
-    let q : sound c.args.window ≡ true = search rules in
-    let z : c.args.pipe ≡ 0 = search rules in
-    restarted_empty _ c.args.pipe c.args.window _ _ _ _ _ _ z q c.clear.ensures.lengths c.clear-then-is_sound.ensures.slots c.clear.ensures.space c.clear.ensures.most
+pub returns-after-self : goal.returns-after-self
+returns-after-self c =
+    let s = c.args.self.now in
+    let t = c.clear.new.self in
+    let v = c.in-Some.window in
+    let none : early_of c.match-self.self.1.1.0 ≡ (λ k. None) = elim c.match-self.branch [
+      | in-Some-ahead w ↦ ap (λ x. early_of x.1.1.0) w.self-is ∙ w.clear-in-Some-ahead.ensures
+      | in_default-ahead w ↦ ap (λ x. early_of x.1.1.0) w.self-is ∙ ap early_of w.in_default-ahead.is
+    ] in
+    let gathers : is_some c.match-self.self.1.1.0 ≡ is_some s.ahead = elim c.match-self.branch [
+      | in-Some-ahead w ↦ ap (λ x. is_some x.1.1.0) w.self-is ∙ sym (ap is_some w.in-Some-ahead.is)
+      | in_default-ahead w ↦ ap (λ x. is_some x.1.1.0) w.self-is
+    ] in
+    subst (λ x. SinkRestarted (sink_of s) c.args.pipe x (sink_at (is_some c.match-self.self.1.1.0) (Some v.window) (taken_in t) (early_of c.match-self.self.1.1.0) (space_of t) (most_of t) Nothing)) (same_window v.window c.args.window (sound c.args.window) c.in-Some.ensures)
+    (restarted_empty (sink_of s) c.args.pipe v.window (is_some c.match-self.self.1.1.0) (taken_in t) (early_of c.match-self.self.1.1.0) (space_of t) (most_of t) c.if-pipe-eq0.true v.within gathers c.clear.ensures.taken none c.clear.ensures.space c.clear.ensures.most)
