@@ -1,13 +1,8 @@
 //! A choice as a link: it means what the chosen link means, and passes every call to it.
-ghost use Rattle.std.specs.Prelude.{◌≡◌, None};
-ghost use Rattle.std.proofs.Common.{sym, subst, rules};
-ghost use Rattle.choice.specs.Chosen.{chosen, Steps};
-ghost use Rattle.link.specs.declared.answers.Collected.TheVariants.{Stall as Stalled};
-ghost use Rattle.link.specs.declared.answers.PollAnswer.TheVariants.{Stall};
-ghost use Rattle.link.specs.Meaning.{absent, Restarts, admits, Polls, Fetches, Sends, Collects};
-ghost use Rattle.link.proofs.Solo.{still_absent};
+ghost use Rattle.std.proofs.Common.{rules};
+ghost use Rattle.link.specs.Meaning.{Restarts, Polls, Fetches, Sends, Collects};
 ghost use Rattle.choice.specs.Cases.{by_case};
-ghost use Rattle.link.proofs.Clauses.{stalled_poll, lost_fetch, lost_send, stalled_collect};
+ghost use Rattle.choice.specs.Chosen.{chosen, Steps};
 
 use crate::place::Choice;
 use link::{Collected, Direction, Fetched, Link, Packet, PollAnswer, Window};
@@ -15,35 +10,34 @@ use link::{Collected, Direction, Fetched, Link, Packet, PollAnswer, Window};
 impl<X: Link, Y: Link> Link for Choice<X, Y> {
     ghost meaning = { λ s. chosen X.Link.meaning Y.Link.meaning s };
 
-    ghost restarted = { λ s p w t. Steps (λ a b. X.Link.restarted a p w b) (λ a b. Y.Link.restarted a p w b) (Unit {0}) s t };
+    ghost restarted = { λ s p w t. Steps (λ x y. X.Link.restarted x p w y) (λ x y. Y.Link.restarted x p w y) s t };
 
-    ghost polled = { λ s p b r t. Steps (λ x y. X.Link.polled x p b r y) (λ x y. Y.Link.polled x p b r y) (r ≡ Stall) s t };
+    ghost polled = { λ s p b a t. Steps (λ x y. X.Link.polled x p b a y) (λ x y. Y.Link.polled x p b a y) s t };
 
-    ghost fetched = { λ s p i r t. Steps (λ x y. X.Link.fetched x p i r y) (λ x y. Y.Link.fetched x p i r y) (r ≡ None) s t };
+    ghost fetched = { λ s p i a t. Steps (λ x y. X.Link.fetched x p i a y) (λ x y. Y.Link.fetched x p i a y) s t };
 
-    ghost sent = { λ s p n b t. Steps (λ x y. X.Link.sent x p n b y) (λ x y. Y.Link.sent x p n b y) (Unit {0}) s t };
+    ghost sent = { λ s p n b t. Steps (λ x y. X.Link.sent x p n b y) (λ x y. Y.Link.sent x p n b y) s t };
 
-    ghost collected = { λ s p r t. Steps (λ x y. X.Link.collected x p r y) (λ x y. Y.Link.collected x p r y) (r ≡ Stalled) s t };
+    ghost collected = { λ s p a t. Steps (λ x y. X.Link.collected x p a y) (λ x y. Y.Link.collected x p a y) s t };
 
     ghost above = { Prim.search rules };
 
     ghost bounds = { Prim.search rules };
 
-    ghost restarting = { λ s t p w h. by_case X.Link.meaning Y.Link.meaning _ _ _ (λ a b. Restarts a w b) p (λ x y r. X.Link.restarting x y p w r) (λ x y r. Y.Link.restarting x y p w r) (λ n. still_absent (admits absent w)) s t h };
+    ghost restarting = { λ s t p w. by_case X.Link.meaning Y.Link.meaning (λ x y. Restarts x w y) p _ _ (λ x y. X.Link.restarting x y p w) (λ x y. Y.Link.restarting x y p w) s t };
 
-    ghost polling = { λ s t p b a h. by_case X.Link.meaning Y.Link.meaning _ _ _ (λ x y. Polls x b a y) p (λ x y r. X.Link.polling x y p b a r) (λ x y r. Y.Link.polling x y p b a r) (λ n. subst (λ v. Polls absent b v absent) (sym n) (stalled_poll absent b)) s t h };
+    ghost polling = { λ s t p b a. by_case X.Link.meaning Y.Link.meaning (λ x y. Polls x b a y) p _ _ (λ x y. X.Link.polling x y p b a) (λ x y. Y.Link.polling x y p b a) s t };
 
-    ghost fetching = { λ s t p i a h. by_case X.Link.meaning Y.Link.meaning _ _ _ (λ x y. Fetches x i a y) p (λ x y r. X.Link.fetching x y p i a r) (λ x y r. Y.Link.fetching x y p i a r) (λ n. subst (λ v. Fetches absent i v absent) (sym n) (lost_fetch absent i)) s t h };
+    ghost fetching = { λ s t p i a. by_case X.Link.meaning Y.Link.meaning (λ x y. Fetches x i a y) p _ _ (λ x y. X.Link.fetching x y p i a) (λ x y. Y.Link.fetching x y p i a) s t };
 
-    ghost sending = { λ s t p n b h. by_case X.Link.meaning Y.Link.meaning _ _ _ (λ x y. Sends x n b y) p (λ x y r. X.Link.sending x y p n b r) (λ x y r. Y.Link.sending x y p n b r) (λ u. lost_send absent n b) s t h };
+    ghost sending = { λ s t p n b. by_case X.Link.meaning Y.Link.meaning (λ x y. Sends x n b y) p _ _ (λ x y. X.Link.sending x y p n b) (λ x y. Y.Link.sending x y p n b) s t };
 
-    ghost collecting = { λ s t p a h. by_case X.Link.meaning Y.Link.meaning _ _ _ (λ x y. Collects x a y) p (λ x y r. X.Link.collecting x y p a r) (λ x y r. Y.Link.collecting x y p a r) (λ n. subst (λ v. Collects absent v absent) (sym n) (stalled_collect absent)) s t h };
+    ghost collecting = { λ s t p a. by_case X.Link.meaning Y.Link.meaning (λ x y. Collects x a y) p _ _ (λ x y. X.Link.collecting x y p a) (λ x y. Y.Link.collecting x y p a) s t };
 
     fn describe(&self, pipe: u8) -> Option<Direction> {
         match self {
             Choice::First(link) => link.describe(pipe),
             Choice::Second(link) => link.describe(pipe),
-            Choice::Neither => None,
         }
     }
 
@@ -51,7 +45,6 @@ impl<X: Link, Y: Link> Link for Choice<X, Y> {
         match self {
             Choice::First(link) => link.restart(pipe, window),
             Choice::Second(link) => link.restart(pipe, window),
-            Choice::Neither => {}
         }
     }
 
@@ -59,7 +52,6 @@ impl<X: Link, Y: Link> Link for Choice<X, Y> {
         match self {
             Choice::First(link) => link.poll(pipe, wanted),
             Choice::Second(link) => link.poll(pipe, wanted),
-            Choice::Neither => PollAnswer::Stall,
         }
     }
 
@@ -67,7 +59,6 @@ impl<X: Link, Y: Link> Link for Choice<X, Y> {
         match self {
             Choice::First(link) => link.fetch(pipe, offset, into),
             Choice::Second(link) => link.fetch(pipe, offset, into),
-            Choice::Neither => Fetched::Lost,
         }
     }
 
@@ -75,7 +66,6 @@ impl<X: Link, Y: Link> Link for Choice<X, Y> {
         match self {
             Choice::First(link) => link.send(pipe, number, bytes),
             Choice::Second(link) => link.send(pipe, number, bytes),
-            Choice::Neither => {}
         }
     }
 
@@ -83,7 +73,6 @@ impl<X: Link, Y: Link> Link for Choice<X, Y> {
         match self {
             Choice::First(link) => link.collect(pipe),
             Choice::Second(link) => link.collect(pipe),
-            Choice::Neither => Collected::Stall,
         }
     }
 }

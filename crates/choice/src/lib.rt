@@ -1,4 +1,4 @@
-//! A place for a link of one of two kinds, or for none: what stands there is chosen when the program runs.
+//! A place for a link of one of two kinds: what stands there is chosen when the program runs.
 #![tactic(auto)]
 
 pub mod carry;

@@ -1,9 +1,8 @@
-//! One of two links, or none.
+//! One of two links.
 
-/// One of two links, or none, which has no pipe.
+/// One of two links.
 #[derive(Drop)]
 pub enum Choice<A, B> {
     First(A),
     Second(B),
-    Neither,
 }

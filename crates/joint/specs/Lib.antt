@@ -1,4 +1,3 @@
 -- The root of the definitions on two links side by side.
 pub mod Sides
 pub mod SidesLemmas
-pub mod JointLinkLemmas

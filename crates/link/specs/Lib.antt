@@ -5,6 +5,8 @@ pub mod Numbered
 pub mod Text
 pub mod Packets
 pub mod Meaning
+pub mod Meets
+pub mod Optional
 pub mod Terms
 pub mod Steps
 pub mod Once

@@ -11,6 +11,7 @@ ghost use Rattle.link.specs.declared.answers.PollAnswer.{PollAnswer};
 
 pub mod answers;
 pub mod laws;
+pub mod optional;
 pub mod packet;
 pub mod term;
 
