@@ -1,5 +1,6 @@
 -- Loops over entries and pieces: what is left to judge is what was.
-use Rattle.std.proofs.Common.{◌≡◌, ℕ, suc, ◌+◌, ◌-◌, ◌*◌, ◌%◌, ◌<◌, ◌≤◌, List, length, get_or, drop, Ok, Err, sym, ap, ◌∙◌, add-one, arith}
+use Rattle.std.proofs.Common.{◌≡◌, ℕ, suc, ◌+◌, ◌-◌, ◌*◌, ◌%◌, ◌<◌, ◌≤◌, List, length, get_or, drop, Ok, Err, MatchResult, IsErrAnd, sym, ap, ◌∙◌, add-one, arith}
+use Rattle.std.proofs.lemmas.Result.{err_from_is_err_and}
 use Rattle.std.proofs.lemmas.List.{drop_more, drop_all}
 use Rattle.std.proofs.lemmas.Bool.Decides.{nat_tests}
 use Rattle.refusal.specs.declared.reason.Refusal.{Refusal}
@@ -7,8 +8,21 @@ use Rattle.refusal.specs.declared.reason.Refusal.TheVariants.{BadPlace}
 use Rattle.memory.specs.declared.buffer.Buffer.{Buffer}
 use Rattle.memory.specs.declared.judge.BadEntry.{BadEntry}
 use Rattle.memory.specs.declared.judge.Part.{Part}
+use Rattle.memory.specs.declared.judge.Part.TheVariants.{Entry}
 use Rattle.memory.specs.Walk.{page_count}
-use Rattle.memory.specs.Judge.{Verdict, list_verdict, and_then, in_entry, entry_verdict, entries_from, in_piece, buffer_verdict, pieces_from}
+use Rattle.memory.specs.Judge.{Verdict, list_verdict, and_then, spot_of, in_entry, entry_verdict, entries_from, in_piece, buffer_verdict, pieces_from}
+
+-- a verdict with the number of the entry added
+pub entry_told : (k : ℕ) (v : Verdict BadEntry) (r : Verdict Part) {P : BadEntry → Part → Type 0} → ((e : BadEntry) (s : Part) → P e s → s ≡ Entry k)
+    → MatchResult v (λ u. r ≡ Ok u) (λ e. IsErrAnd r (P e)) → r ≡ in_entry k v
+entry_told k (Ok u) r g h = h
+entry_told k (Err e) r g h = let p = err_from_is_err_and r h in p.1 ∙ ap Err (g e p.0 p.2)
+
+-- and with the number of the piece
+pub piece_told : (i : ℕ) (v : Verdict Part) (r : Verdict Refusal) {P : Part → Refusal → Type 0} → ((s : Part) (f : Refusal) → P s f → f ≡ BadPlace (spot_of i s))
+    → MatchResult v (λ u. r ≡ Ok u) (λ s. IsErrAnd r (P s)) → r ≡ in_piece BadPlace i v
+piece_told i (Ok u) r g h = h
+piece_told i (Err s) r g h = let p = err_from_is_err_and r h in p.1 ∙ ap Err (g s p.0 p.2)
 
 pub entries_step : (m : List ℕ) (l k n : ℕ) → k < n
     → entries_from m l k (n - k) ≡ and_then (in_entry k (entry_verdict m l k)) (entries_from m l (k + 1) (n - (k + 1)))
