@@ -1,8 +1,7 @@
 -- What a Put is told: the verdict is what the law says.
-use Rattle.std.proofs.Common.{◌≡◌, ℕ, zero, suc, ◌+◌, ◌-◌, ◌*◌, ◌/◌, ◌<◌, ◌≤◌, Bool, true, false, cond, eqb, ltb, List, length, get_or, Some, None, Ok, Err, Option, sym, refl, ap, ◌∙◌, subst, inl, inr, arith}
-use lib.Seq.{sets}
+use Rattle.std.proofs.Common.{◌≡◌, ℕ, zero, suc, ◌+◌, ◌*◌, ◌/◌, ◌<◌, ◌≤◌, Bool, true, false, cond, eqb, ltb, ◌&&◌, is_none, List, length, get_or, Some, None, Ok, Err, Option, sym, refl, ap, ◌∙◌, subst, inl, inr, add-one, arith}
+use Rattle.std.specs.List.{list_all, range_with_len}
 use Rattle.std.proofs.lemmas.Bool.{cases_lt, cases_eq, cases_Bool, lt-ltb, le-ltb, eq-eqb, ne_eqb, cond-true, cond-false}
-use Rattle.std.proofs.lemmas.List.{nil_from_length}
 use Rattle.refusal.specs.declared.reason.Refusal.{Refusal}
 use Rattle.refusal.specs.declared.reason.Refusal.TheVariants.{WrongSize, BadPlace, PageTaken}
 use Rattle.refusal.specs.declared.reason.Spot.TheVariants.{Call}
@@ -11,11 +10,14 @@ use Rattle.owners.specs.declared.table.Owner.{Owner}
 use Rattle.owners.specs.Claims.{Table}
 use Rattle.owners.specs.Puts.{when_none, all_free, span, place_verdict, put_verdict, Meets, PutTold}
 
-pub free_step : (t : Table) (p k n : ℕ) → k < n → all_free t (p + k) (n - k) ≡ when_none (get_or t (p + k) None) (all_free t (p + (k + 1)) (n - (k + 1)))
-free_step t p k n h =
-    let e : n - k ≡ suc (n - (k + 1)) = omega arith in
-    let f : p + (k + 1) ≡ suc (p + k) = omega arith in
-    rw (e, f)
+pub free_all : (t : Table) (p n : ℕ) → list_all (λ (k : ℕ). is_none (get_or t k None)) (range_with_len p n) ≡ all_free t p n
+free_all t p zero = refl
+free_all t p (suc n) = ap (λ (r : Bool). is_none (get_or t p None) && r) (ap (λ (k : ℕ). list_all (λ (k : ℕ). is_none (get_or t k None)) (range_with_len k n)) (add-one p) ∙ free_all t (suc p) n)
+    ∙ none_and (get_or t p None) (all_free t (suc p) n)
+  where
+    none_and : (v : Option Owner) (r : Bool) → is_none v && r ≡ when_none v r
+    none_and None r = refl
+    none_and (Some o) r = refl
 
 pub never_both : (v : Option Owner) (o : Owner) → v ≡ None → v ≡ Some o → ⊥
 never_both v o a b = let z : ◌≡◌ {A = ℕ} 0 1 = cc in omega arith
@@ -110,14 +112,3 @@ put_law m pages t a n = record {
 
 pub law_of : (m : List ℕ) (pages : ℕ) (t : Table) (a n : ℕ) (r : V) → r ≡ put_verdict m pages t a n → PutTold m pages t a n r
 law_of m pages t a n r e = subst (PutTold m pages t a n) (sym e) (put_law m pages t a n)
-
-pub sets_none : (m : List ℕ) (a : ℕ) (xs : List ℕ) → length xs ≡ 0 → m ≡ sets m a xs
-sets_none m a xs h = rw (nil_from_length xs h)
-
--- memory whose size is accepted has it
-pub size_ok : (m : List ℕ) (pages : ℕ) (r : V) (u : Unit {0}) → r ≡ size_verdict m pages → r ≡ Ok u → length m ≡ pages * 4096
-size_ok m pages r u a b = elim (cases_eq (length m) (pages * 4096)) [
-  | inl e ↦ e
-  | inr e ↦ (let f = cond-false (eqb (length m) (pages * 4096)) good (Err WrongSize) (ne_eqb (length m) (pages * 4096) e) in
-      let z : ◌≡◌ {A = ℕ} 0 1 = cc in let g : ⊥ = omega arith in absurd g)
-]

@@ -1,6 +1,6 @@
 -- Claims of a transfer's pieces, one after another, and their undoing.
-use Rattle.std.proofs.Common.{◌≡◌, ℕ, zero, suc, ◌+◌, ◌-◌, ◌%◌, ◌<◌, ◌≤◌, List, [], ◌++◌, length, get_or, drop, Ok, Err, Result, sym, refl, ap, ◌∙◌, add-one, arith}
-use Rattle.std.proofs.lemmas.List.{drop_more, drop_all}
+use Rattle.std.proofs.Common.{◌≡◌, ℕ, zero, suc, ◌+◌, ◌-◌, ◌%◌, ◌<◌, ◌≤◌, List, [], ◌++◌, length, get_or, take, drop, Ok, Err, Result, sym, refl, ap, ◌∙◌, add-one, arith}
+use Rattle.std.proofs.lemmas.List.{drop_more, drop_all, get_or-take}
 use Rattle.refusal.specs.declared.reason.Refusal.{Refusal}
 use Rattle.memory.specs.declared.buffer.Buffer.{Buffer}
 use Rattle.memory.specs.Faults.{no_buffer}
@@ -52,8 +52,12 @@ unclaim_all_step m ps t u i n h a e =
     let s : i ≡ suc (i - 1) = omega arith in
     ap (unclaimed_all m ps (i - 1)) (e ∙ ap (λ (k : ℕ). unclaimed m (get_or ps (i - 1) no_buffer) k t) a) ∙ sym (ap (λ (k : ℕ). unclaimed_all m ps k t) s)
 
-pub unclaim_all_none : (m : List ℕ) (ps : List Buffer) (t : Table) (i : ℕ) → i ≤ 0 → t ≡ unclaimed_all m ps i t
-unclaim_all_none m ps t i h = let e : i ≡ 0 = omega arith in rw e
+-- the first pieces are taken back whatever follows them
+pub unclaimed_take : (m : List ℕ) (ps : List Buffer) (i n : ℕ) (t : Table) → n ≤ i → unclaimed_all m (take i ps) n t ≡ unclaimed_all m ps n t
+unclaimed_take m ps i zero t h = refl
+unclaimed_take m ps i (suc n) t h =
+    let b : get_or (take i ps) n no_buffer ≡ get_or ps n no_buffer = get_or-take i ps n no_buffer (omega arith) in
+    rw b (unclaimed_take m ps i n (unclaimed m (get_or ps n no_buffer) (names m (get_or ps n no_buffer)) t) (omega arith))
 
 -- the pieces from i on: the first of them, and then the rest
 pub pieces_left : (ow : ℕ → Owner) (m : List ℕ) (ps : List Buffer) (t : Table) (i : ℕ) → i < length ps

@@ -1,5 +1,5 @@
 -- Taking back what was claimed gives the table that was.
-use Rattle.std.proofs.Common.{◌≡◌, ℕ, zero, suc, ◌-◌, ◌<◌, ◌≤◌, List, [], ◌∷◌, ◌++◌, get_or, set, Some, None, Ok, Err, Option, sym, refl, ap, ◌∙◌, zero-add, arith}
+use Rattle.std.proofs.Common.{◌≡◌, ℕ, zero, suc, List, [], ◌∷◌, ◌++◌, get_or, set, Some, None, Ok, Err, Option, sym, refl, ap, ◌∙◌, zero-add, arith}
 use Rattle.std.proofs.lemmas.List.{set-set, set-get_or}
 use Rattle.memory.specs.declared.buffer.Buffer.{Buffer}
 use Rattle.memory.specs.Faults.{Fault}
@@ -43,11 +43,3 @@ undone ow m i b t t' zero e = sym (same_table t t' e)
 undone ow m i b t t' (suc n) e =
     let x = undone_last ow m i b t t' n e in
     ap (unclaimed m b n) x.2 ∙ undone ow m i b t x.0 n x.1
-
-pub unclaim_step : (m : List ℕ) (b : Buffer) (t u : Table) (j q : ℕ) → 0 < j → q ≡ named m b (j - 1) → u ≡ set t q None → unclaimed m b (j - 1) u ≡ unclaimed m b j t
-unclaim_step m b t u j q h a e =
-    let s : j ≡ suc (j - 1) = omega arith in
-    ap (unclaimed m b (j - 1)) (e ∙ ap (λ (x : ℕ). set t x None) a) ∙ sym (ap (λ (n : ℕ). unclaimed m b n t) s)
-
-pub unclaim_none : (m : List ℕ) (b : Buffer) (t : Table) (j : ℕ) → j ≤ 0 → t ≡ unclaimed m b j t
-unclaim_none m b t j h = let e : j ≡ 0 = omega arith in rw e
