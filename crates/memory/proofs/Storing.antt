@@ -108,7 +108,7 @@ pub sets_cut : (l : List ℕ) (i n : ℕ) (xs : List ℕ) → (i + n < length l 
 sets_cut l i zero [] h = refl
 sets_cut l i (suc n) [] h = refl
 sets_cut l i zero (x ∷ xs) h = elim (cases_lt (i + 0) (length l)) [
-  | inl a ↦ (let z : suc (length xs) ≤ 0 = h a in let f : ⊥ = omega arith in absurd f)
+  | inl a ↦ (let z : suc (length xs) ≤ 0 = h a in absurd (omega arith))
   | inr a ↦ sym (sets_past l i (x ∷ xs) (omega arith))
 ]
 sets_cut l i (suc n) (x ∷ xs) h = sets_cut (set l i x) (suc i) n xs

@@ -20,10 +20,10 @@ one_owner ow m i b t j (suc n) =
 -- what an answer and a table say of a claim
 pub was_ok : (x : Claim) (t t' : Table) (r : Result (Unit {0}) Refusal) (u : Unit {0}) → r ≡ answer x → t' ≡ after t x → r ≡ Ok u → x ≡ Ok t'
 was_ok (Ok v) t t' r u a b e = ap Ok (sym b)
-was_ok (Err f) t t' r u a b e = let z : ◌≡◌ {A = ℕ} 0 1 = cc in let g : ⊥ = omega arith in absurd g
+was_ok (Err f) t t' r u a b e = absurd (cc)
 
 pub was_err : (x : Claim) (t t' : Table) (r : Result (Unit {0}) Refusal) (f : Refusal) → r ≡ answer x → t' ≡ after t x → r ≡ Err f → (x ≡ Err f) × (t' ≡ t)
-was_err (Ok v) t t' r f a b e = let z : ◌≡◌ {A = ℕ} 0 1 = cc in let g : ⊥ = omega arith in absurd g
+was_err (Ok v) t t' r f a b e = absurd (cc)
 was_err (Err h) t t' r f a b e = (cc, b)
 
 -- the namings of the first n pieces

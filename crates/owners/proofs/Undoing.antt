@@ -1,5 +1,5 @@
 -- Taking back what was claimed gives the table that was.
-use Rattle.std.proofs.Common.{◌≡◌, ℕ, zero, suc, List, [], ◌∷◌, ◌++◌, get_or, set, Some, None, Ok, Err, Option, sym, refl, ap, ◌∙◌, zero-add, arith}
+use Rattle.std.proofs.Common.{◌≡◌, ℕ, zero, suc, List, [], ◌∷◌, ◌++◌, get_or, set, Some, None, Ok, Err, Option, sym, refl, ap, ◌∙◌, zero-add}
 use Rattle.std.proofs.lemmas.List.{set-set, set-get_or}
 use Rattle.memory.specs.declared.buffer.Buffer.{Buffer}
 use Rattle.memory.specs.Faults.{Fault}
@@ -14,7 +14,7 @@ same_table t u e = cc
 -- a run of claims that ends well: the first did, and then the rest
 pub next_ok : (r : Claim) (f : Table → Claim) (t' : Table) → next r f ≡ Ok t' → (u : Table) × (r ≡ Ok u) × (f u ≡ Ok t')
 next_ok (Ok u) f t' e = (u, refl, e)
-next_ok (Err x) f t' e = let z : ◌≡◌ {A = ℕ} 0 1 = cc in let g : ⊥ = omega arith in absurd g
+next_ok (Err x) f t' e = absurd (cc)
 
 pub page_ok : (t t' : Table) (q : ℕ) (f : Fault) (o : Owner) → take_page t q f o ≡ Ok t' → (get_or t q None ≡ None) × (set t q (Some o) ≡ t')
 page_ok t t' q f o e = go (get_or t q None) refl
@@ -23,7 +23,7 @@ page_ok t t' q f o e = go (get_or t q None) refl
     go None h = (h, same_table (set t q (Some o)) t' (sym (take_free t q f o h) ∙ e))
     go (Some w) h =
         let g = sym (take_owned t q f o w h) ∙ e in
-        let z : ◌≡◌ {A = ℕ} 0 1 = cc in let n : ⊥ = omega arith in absurd n
+        absurd (cc)
 
 pub set_undone : (t : Table) (q : ℕ) (v : Option Owner) → get_or t q None ≡ None → set (set t q v) q None ≡ t
 set_undone t q v h = set-set t q v None ∙ sym (ap (λ (x : Option Owner). set t q x) h) ∙ set-get_or t q None
