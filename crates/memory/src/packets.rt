@@ -1,34 +1,35 @@
 //! Packets into and out of a buffer, by runs within a page.
 ghost use Rattle.std.specs.Prelude.{◌≡◌, ℕ, ◌+◌, ◌-◌, ◌*◌, ◌/◌, ◌%◌, ◌^◌, ◌<◌, ◌≤◌, length, SomeIff};
 ghost use Rattle.std.proofs.lemmas.List.Edits.{sets};
-ghost use Rattle.memory.specs.Store.{stored, gathered, place, Written, Read};
+ghost use Rattle.memory.specs.Store.{gathered, Written, Read};
 
 use crate::buffer::Buffer;
 use crate::pages::PAGE;
 
-/// The address of a place in a page; none where memory does not go so far.
-fn address(memory: &[u8], page: usize, offset: usize) -> Option<usize>
-    ensures { SomeIff result (page * 4096 + offset < length memory.now) (page * 4096 + offset) }
+/// The address of a place, a page number and an offset in the page; none where memory does not go so far.
+fn address(memory: &[u8], place: (usize, usize)) -> Option<usize>
+    ensures { SomeIff result (place.0 * 4096 + place.1 < length memory.now) (place.0 * 4096 + place.1) }
 {
+    let (page, offset) = place;
     let from = page.checked_mul(PAGE)?.checked_add(offset)?;
     (from < memory.len()).then_some(from)
 }
 
-/// Copies bytes to a place in a page, as far as memory goes.
-fn write_run(memory: &mut [u8], page: usize, offset: usize, bytes: &[u8])
-    ensures { memory.new ≡ sets memory.old (page * 4096 + offset) bytes.now }
+/// Copies bytes to a place, as far as memory goes.
+fn write_run(memory: &mut [u8], place: (usize, usize), bytes: &[u8])
+    ensures { memory.new ≡ sets memory.old (place.0 * 4096 + place.1) bytes.now }
 {
-    if let Some(from) = address(memory, page, offset) {
+    if let Some(from) = address(memory, place) {
         let count = bytes.len().min(memory.len() - from);
         memory[from..from + count].copy_from_slice(&bytes[..count]);
     }
 }
 
-/// Copies bytes from a place in a page, as far as memory goes; zeros from there on.
-fn read_run(memory: &[u8], page: usize, offset: usize, into: &mut [u8])
-    ensures { into.new ≡ gathered (λ j. j) memory.now (page * 4096 + offset) (length into.old) }
+/// Copies bytes from a place, as far as memory goes; zeros from there on.
+fn read_run(memory: &[u8], place: (usize, usize), into: &mut [u8])
+    ensures { into.new ≡ gathered (λ j. j) memory.now (place.0 * 4096 + place.1) (length into.old) }
 {
-    match address(memory, page, offset) {
+    match address(memory, place) {
         Some(from) => {
             let count = into.len().min(memory.len() - from);
             into[..count].copy_from_slice(&memory[from..from + count]);
@@ -46,11 +47,11 @@ impl Buffer {
         if bytes.len() > PAGE {
             return;
         }
-        let (page, offset) = self.walk(memory, at as usize);
-        let head = bytes.len().min(PAGE - offset);
-        let (next, start) = self.walk(memory, at as usize + head);
-        write_run(memory, page, offset, &bytes[..head]);
-        write_run(memory, next, start, &bytes[head..]);
+        let first = self.walk(memory, at as usize);
+        let head = bytes.len().min(PAGE - first.1);
+        let next = self.walk(memory, at as usize + head);
+        write_run(memory, first, &bytes[..head]);
+        write_run(memory, next, &bytes[head..]);
     }
 
     /// Reads a packet from byte `at` on, as many bytes as there is room for.
@@ -60,10 +61,10 @@ impl Buffer {
         if into.len() > PAGE {
             return;
         }
-        let (page, offset) = self.walk(memory, at as usize);
-        let head = into.len().min(PAGE - offset);
-        let (next, start) = self.walk(memory, at as usize + head);
-        read_run(memory, page, offset, &mut into[..head]);
-        read_run(memory, next, start, &mut into[head..]);
+        let first = self.walk(memory, at as usize);
+        let head = into.len().min(PAGE - first.1);
+        let next = self.walk(memory, at as usize + head);
+        read_run(memory, first, &mut into[..head]);
+        read_run(memory, next, &mut into[head..]);
     }
 }

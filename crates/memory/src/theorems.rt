@@ -1,5 +1,4 @@
 //! What holds of every memory, each on a contract of its own.
-ghost use Rattle.refusal.specs.declared.reason.Refusal.TheVariants.{BadPlace};
 ghost use Rattle.memory.specs.Faults.{PlaceAnswers};
 ghost use Rattle.memory.specs.Kept.{Crosses, Placeless, Keeps};
 

@@ -24,4 +24,4 @@ returns-in-Some c =
 pub returns-in-None : goal.returns-in-None
 returns-in-None c =
     c.fill-in-None.ensures.after (λ y h. h)
-    ∙ sym (gathered_past c.args.memory.now (c.args.page * 4096 + c.args.offset) (length c.args.into.now) (omega (arith, c.in-None.ensures)))
+    ∙ sym (gathered_past c.args.memory.now (c.args.place.0 * 4096 + c.args.place.1) (length c.args.into.now) (omega (arith, c.in-None.ensures)))

@@ -18,4 +18,4 @@ returns-in-Some c =
     ∙ ap (λ i. sets m i xs) f.1
 
 pub returns-in_default : goal.returns-in_default
-returns-in_default c = sym (sets_past c.args.memory.now (c.args.page * 4096 + c.args.offset) c.args.bytes.now (omega (arith, c.in_default.ensures)))
+returns-in_default c = sym (sets_past c.args.memory.now (c.args.place.0 * 4096 + c.args.place.1) c.args.bytes.now (omega (arith, c.in_default.ensures)))

@@ -12,16 +12,16 @@ returns c =
     let xs = c.args.into.now in
     let at = c.args.at in
     let head = c.min-head.result in
-    let w = c.walk-page.ensures in
+    let w = c.walk-first.ensures in
     let v = c.walk-next.ensures in
     let f = c.read_run.ensures in
     let g = c.read_run-2.ensures in
-    let o : c.walk-page.result.1 ≡ (offset m c.args.self + at) % 4096 = ap (λ x. x.1) w in
+    let o : c.walk-first.result.1 ≡ (offset m c.args.self + at) % 4096 = ap (λ x. x.1) w in
     let e = two_reads m c.args.self at head (length xs) (omega arith) (omega arith) (omega arith) in
     let a : length c.read_run.new.into ≡ head = omega (arith, length-take-le head xs (omega arith)) in
     let z : length c.read_run-2.new.into ≡ length xs - head = omega arith in
     let f' : c.read_run.new.into ≡ gathered (λ j. j) m (place m c.args.self at) head
-    = f ∙ ap (λ n. gathered (λ j. j) m (c.walk-page.result.0 * 4096 + c.walk-page.result.1) n) (sym c.read_run.auto.into ∙ a)
+    = f ∙ ap (λ n. gathered (λ j. j) m (c.walk-first.result.0 * 4096 + c.walk-first.result.1) n) (sym c.read_run.auto.into ∙ a)
     ∙ ap (λ q. gathered (λ j. j) m (q.0 * 4096 + q.1) head) w in
     let g' : c.read_run-2.new.into ≡ gathered (λ j. j) m (place m c.args.self (at + head)) (length xs - head)
     = g ∙ ap (λ n. gathered (λ j. j) m (c.walk-next.result.0 * 4096 + c.walk-next.result.1) n) (sym c.read_run-2.auto.into ∙ z)
