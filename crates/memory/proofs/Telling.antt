@@ -206,6 +206,9 @@ judging m ps = told_like BadPlace (FaultFrom m 0 ps) (MisplacedIn m ps)
     (λ f x. (f.piece, x.0, sym (zero-add f.piece), x.1))
     (pieces_from m 0 ps) (pieces_told m 0 ps)
 
+pub places_told : (m : List ℕ) (ps : List Buffer) (r : Verdict Refusal) → r ≡ pieces_from m 0 ps → PlacesTold m ps r
+places_told m ps r e = subst (PlacesTold m ps) (sym e) (judging m ps)
+
 -- of two faults that differ one comes first
 pub parts_order : (r s : Part) → (r ≡ s) ⊎ (Before r s ⊎ Before s r)
 parts_order Whole Whole = inl refl

@@ -59,6 +59,7 @@ impl Buffer {
     }
 
     /// Judges a page list: first where it stands, then its entries in turn, each fault told with the entry's number.
+    #[tactic(auto, using(crate::proofs::Judging::entries_step))]
     fn judge_list(self, memory: &[u8]) -> Result<(), Part>
         ensures { result ≡ list_verdict memory.now self }
     {
@@ -101,6 +102,7 @@ impl Buffer {
 }
 
 /// Judges the pieces of a transfer in the order given; the first fault is told, with the number of its piece.
+#[tactic(auto, using(crate::proofs::Judging::pieces_step, crate::proofs::Telling::places_told))]
 pub fn judge_pieces(memory: &[u8], pieces: &[Buffer]) -> Result<(), Refusal>
     ensures verdict { result ≡ pieces_from memory.now 0 pieces.now }
     ensures first { PlacesTold memory.now pieces.now result }

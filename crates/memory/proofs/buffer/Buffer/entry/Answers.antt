@@ -3,9 +3,6 @@ use Rattle.std.proofs.Common.{ℕ, ◌/◌, ◌%◌, sym, ap, ◌∙◌, arith}
 use Rattle.memory.proofs.Entries.{entry_inside}
 use Rattle.memory.proofs.buffer.Buffer.entry.Goals as goal
 
-pub returns-then-k-ge512 : goal.returns-then-k-ge512
-returns-then-k-ge512 c = λ h. omega (arith, h.0)
-
 pub returns : goal.returns
 returns c = (
   (omega arith, omega (arith, c.in_ok-word.ensures.0)),
