@@ -14,6 +14,7 @@ fn kept(held: Option<Owner>, owner: Owner) -> Option<Owner>
 
 impl Owners {
     /// Lets go of the pages from `first` to before `end`.
+    #[tactic(auto, using(crate::proofs::Freeing::freed_step))]
     fn release_run(&mut self, first: usize, end: usize, owner: Owner)
         ensures { self.new.table ≡ freed_pages owner self.old.table first (end - first) }
     {
