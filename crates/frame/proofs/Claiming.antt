@@ -8,7 +8,7 @@ use Rattle.owners.specs.Claims.{Table, take_page, claimed}
 use Rattle.owners.proofs.Undoing.{next_ok, page_ok, same_table}
 use Rattle.owners.proofs.Ordering.{In, set_from}
 use Rattle.owners.proofs.Telling.{in_left, in_pages}
-use Rattle.owners.proofs.Putting.{never_both}
+use Rattle.std.proofs.lemmas.Option.{none-some}
 use Rattle.std.proofs.lemmas.List.{length-set, get_or-set_same, get_or-set_other}
 use Rattle.std.proofs.lemmas.Bool.{cases_eq}
 
@@ -30,7 +30,7 @@ pub took_more : (ow : ℕ → Owner) (t t' : Table) (x : Naming) (xs : List Nami
     → Took ow (set t x.1 (Some (ow x.0.piece))) t' xs → Took ow t t' (x ∷ xs)
 took_more ow t t' x xs l e k = record {
   size = k.size ∙ length-set t x.1 (Some o);
-  kept = λ q v g. k.kept q v (get_or-set_other t x.1 q (Some o) None (λ y. never_both (get_or t x.1 None) v e (sym (ap (λ (i : ℕ). get_or t i None) y) ∙ g)) ∙ g);
+  kept = λ q v g. k.kept q v (get_or-set_other t x.1 q (Some o) None (λ y. none-some v (sym e ∙ sym (ap (λ (i : ℕ). get_or t i None) y) ∙ g)) ∙ g);
   fresh = λ f q i. elim i [
     | inl a ↦ sym (ap (λ (n : ℕ). get_or t n None) a.1) ∙ e
     | inr a ↦ sym (get_or-set_other t x.1 q (Some o) None (apart f q a)) ∙ k.fresh f q a
@@ -53,8 +53,7 @@ took_more ow t t' x xs l e k = record {
     here = get_or-set_same t x.1 (Some (ow x.0.piece)) None l
 
     apart : (f : Fault) (q : ℕ) → In f q xs → q ≡ x.1 → ⊥
-    apart f q a y = never_both (get_or (set t x.1 (Some (ow x.0.piece))) x.1 None) (ow x.0.piece)
-        (sym (ap (λ (n : ℕ). get_or (set t x.1 (Some (ow x.0.piece))) n None) y) ∙ k.fresh f q a) here
+    apart f q a y = none-some (ow x.0.piece) (sym (k.fresh f q a) ∙ ap (λ (n : ℕ). get_or (set t x.1 (Some (ow x.0.piece))) n None) y ∙ here)
 
 pub took : (ow : ℕ → Owner) (t t' : Table) (ns : List Naming) → ((f : Fault) (q : ℕ) → In f q ns → q < length t) → claimed ow t ns ≡ Ok t' → Took ow t t' ns
 took ow t t' [] ins e =

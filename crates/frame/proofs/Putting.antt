@@ -17,10 +17,10 @@ pub put_misses : (m : List ℕ) (pages : ℕ) (t : Table) (a n : ℕ) → put_ve
 put_misses m pages t a n v y =
     let l = put_law m pages t a n in
     elim (cases_eq (length m) (pages * 4096)) [
-      | inr s ↦ (let e = l.size s in let z : ◌≡◌ {A = ℕ} 0 1 = cc in omega arith)
+      | inr s ↦ (let e = l.size s in cc)
       | inl s ↦ (elim (cases_lt (length m) (a + n)) [
-        | inl x ↦ (let e = l.outside s (omega (arith, y.1, y.2)) x in let z : ◌≡◌ {A = ℕ} 0 1 = cc in omega arith)
-        | inr x ↦ (let e = l.taken s (omega (arith, y.1, y.2)) x y in let z : ◌≡◌ {A = ℕ} 0 1 = cc in omega arith)
+        | inl x ↦ (let e = l.outside s (omega (arith, y.1, y.2)) x in cc)
+        | inr x ↦ (let e = l.taken s (omega (arith, y.1, y.2)) x y in cc)
       ])
     ]
 

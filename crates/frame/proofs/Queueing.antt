@@ -1,5 +1,6 @@
 -- Pieces queued own what they name.
 use Rattle.std.proofs.Common.{◌≡◌, ℕ, zero, suc, ◌+◌, ◌%◌, ◌<◌, ◌⊎◌, List, length, get_or, Some, None, Option, sym, refl, ap, ◌∙◌, subst, inl, inr, zero-add, arith}
+use Rattle.std.proofs.lemmas.Option.{none-some}
 use Rattle.memory.specs.declared.buffer.Buffer.{Buffer}
 use Rattle.owners.specs.declared.table.Owner.{Owner}
 use Rattle.memory.specs.Faults.{no_buffer}
@@ -54,14 +55,11 @@ found f j (suc n) = elim (cases_eq (f n) j) [
   ])
 ]
 
-pub none_some : (v : Option Buffer) (b : Buffer) → v ≡ None → v ≡ Some b → ⊥
-none_some v b a c = let z : ◌≡◌ {A = ℕ} 0 1 = cc in omega arith
-
 -- a piece that was there is there
 pub queue_held : (w : World) (s first : ℕ) (ps : List Buffer) (h : ℕ → ℕ → Option Buffer) (t : Table) → Queued s first ps w h t
     → (i j : ℕ) (b : Buffer) → w.held i j ≡ Some b → h i j ≡ Some b
 queue_held w s first ps h t q i j b g =
-    q.old i j (λ e n l d. none_some (w.held i j) b (subst (λ (a : ℕ). w.held a j ≡ None) (sym e) (subst (λ (c : ℕ). w.held s c ≡ None) d (q.fresh n l))) g) ∙ g
+    q.old i j (λ e n l d. none-some b (sym (subst (λ (a : ℕ). w.held a j ≡ None) (sym e) (subst (λ (c : ℕ). w.held s c ≡ None) d (q.fresh n l))) ∙ g)) ∙ g
 
 pub queue_owned : (w : World) (s first : ℕ) (ps : List Buffer) (h : ℕ → ℕ → Option Buffer) (t : Table) → Owned w → Queued s first ps w h t → Owned (queued w h t)
 queue_owned w s first ps h t o q = record {

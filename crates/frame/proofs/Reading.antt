@@ -4,12 +4,12 @@ use lib.Seq.{sets, sets-eq}
 use Rattle.memory.specs.declared.buffer.Kind.TheVariants.{Direct}
 use Rattle.memory.specs.declared.buffer.Buffer.{Buffer}
 use Rattle.std.proofs.lemmas.List.{take_at, drop_at, get_or-replicate, get_or_past, length-replicate, append_assoc, length-take-le}
+use Rattle.std.proofs.lemmas.Option.{none-some}
 use Rattle.std.proofs.lemmas.Bool.{cases_lt}
 use Rattle.memory.specs.Walk.{offset}
 use Rattle.memory.specs.Store.{gathered, place}
 use Rattle.memory.proofs.Storing.{length_gathered, gathered_add, gathered_run, gathered_within}
 use Rattle.owners.specs.Claims.{Table, owner}
-use Rattle.owners.proofs.Putting.{never_both}
 use Rattle.owners.proofs.Known.{offset_direct, page_direct}
 use Rattle.frame.specs.Worlds.{World, Owned, bytes, written}
 use Rattle.frame.specs.Frames.{written_all, sets_all, FitAll}
@@ -31,8 +31,8 @@ pub starts : (n : ℕ) (m : List ℕ) → length m ≡ n * 4096 → n ≤ 4096 �
 starts n m e a = record {
   whole = omega arith;
   covered = (let l = empty_length 4096 in rw l (omega arith));
-  owned = λ i j b h. (let z : ◌≡◌ {A = ℕ} 0 1 = cc in let f : ⊥ = omega arith in absurd f);
-  exact = λ q i j h. absurd (never_both (get_or (empty 4096) q None) (owner i j) (none_at 4096 q) h);
+  owned = λ i j b h. (absurd (cc));
+  exact = λ q i j h. absurd (none-some (owner i j) (sym (none_at 4096 q) ∙ h));
 }
 
 pub part_shows : (g : ℕ → ℕ) (m : List ℕ) (at n k : ℕ) → at + n ≤ k → gathered g m at n ≡ take n (drop at (gathered g m 0 k))

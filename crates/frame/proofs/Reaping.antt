@@ -34,10 +34,10 @@ freed_other i j a b ne = elim (same_both a b i j) [
 ]
 
 pub freed_some : (i j : ℕ) (v : Option Owner) (a b : ℕ) → freed (owner i j) v ≡ Some (owner a b) → (v ≡ Some (owner a b)) × (a ≡ i → b ≡ j → ⊥)
-freed_some i j None a b e = let z : ◌≡◌ {A = ℕ} 0 1 = cc in let f : ⊥ = omega arith in absurd f
+freed_some i j None a b e = absurd (cc)
 freed_some i j (Some o) a b e = elim (same_both o.set o.slot i j) [
   | inl s ↦ (let n = cond-true (eqb o.set i && eqb o.slot j) None (Some o) s.2 in
-      let z : ◌≡◌ {A = ℕ} 0 1 = cc in let f : ⊥ = omega arith in absurd f)
+      absurd (cc))
   | inr s ↦ (let n = cond-false (eqb o.set i && eqb o.slot j) None (Some o) s.1 in
       let g : ◌≡◌ {A = Option Owner} (Some o) (Some (owner a b)) = sym n ∙ e in
       let k : o ≡ owner a b = cc in
@@ -53,7 +53,7 @@ held_other h i j a b ne = elim (same_both a b i j) [
 pub held_some : (h : ℕ → ℕ → Option Buffer) (i j a b : ℕ) (p : Buffer) → without i j h a b ≡ Some p → (h a b ≡ Some p) × (a ≡ i → b ≡ j → ⊥)
 held_some h i j a b p e = elim (same_both a b i j) [
   | inl s ↦ (let n = cond-true (eqb a i && eqb b j) None (h a b) s.2 in
-      let z : ◌≡◌ {A = ℕ} 0 1 = cc in let f : ⊥ = omega arith in absurd f)
+      absurd (cc))
   | inr s ↦ (sym (cond-false (eqb a i && eqb b j) None (h a b) s.1) ∙ e, s.0)
 ]
 
@@ -72,7 +72,7 @@ pages_out o t q (suc n) x h =
     pages_out o (set t q (freed o (get_or t q None))) (suc q) n x (λ a b. h (omega arith) (omega arith)) ∙ get_or-set_other t q x (freed o (get_or t q None)) None ne
 
 pub pages_in : (o : Owner) (t : Table) (q n x : ℕ) → q ≤ x → x < q + n → get_or (freed_pages o t q n) x None ≡ freed o (get_or t x None)
-pages_in o t q zero x a b = let f : ⊥ = omega arith in absurd f
+pages_in o t q zero x a b = absurd (omega arith)
 pages_in o t q (suc n) x a b = elim (cases_eq x q) [
   | inl e ↦ pages_out o (set t q (freed o (get_or t q None))) (suc q) n x (λ u v. omega arith)
       ∙ ap (λ (y : ℕ). get_or (set t q (freed o (get_or t q None))) y None) e ∙ freed_here o t q ∙ sym (ap (λ (y : ℕ). freed o (get_or t y None)) e)

@@ -120,8 +120,8 @@ pub owned_same : (t : Table) (m m' : List ℕ) (o : Owner) (b : Buffer) → leng
 owned_same t m m' o b e h w = elim (cases_eq b.length 0) [
   | inl z ↦ (let n = names_none m' b z in record {
     placed = empty_placed m' b z;
-    pages = λ j l. (let f : ⊥ = omega arith in absurd f);
-    apart = λ i j l k. (let f : ⊥ = omega arith in absurd f);
+    pages = λ j l. (absurd (omega arith));
+    apart = λ i j l k. (absurd (omega arith));
   })
   | inr z ↦ (let a = h (omega arith) in
       let n = names_same m m' b e a in

@@ -9,15 +9,15 @@ use Rattle.memory.proofs.Telling.{BufferTold, buffer_told}
 
 pub both_ok : {E : Type 0} (r s : Verdict E) → and_then r s ≡ Ok tt → (r ≡ Ok tt) × (s ≡ Ok tt)
 both_ok (Ok u) s e = (refl, e)
-both_ok (Err x) s e = let z : ◌≡◌ {A = ℕ} 0 1 = cc in let f : ⊥ = omega arith in absurd f
+both_ok (Err x) s e = absurd (cc)
 
 pub piece_ok : (i : ℕ) (v : Verdict Part) → in_piece BadPlace i v ≡ Ok tt → v ≡ Ok tt
 piece_ok i (Ok u) e = refl
-piece_ok i (Err x) e = let z : ◌≡◌ {A = ℕ} 0 1 = cc in let f : ⊥ = omega arith in absurd f
+piece_ok i (Err x) e = absurd (cc)
 
 -- pieces that were judged well are each judged well
 pub judged_each : (m : List ℕ) (i : ℕ) (ps : List Buffer) → pieces_from m i ps ≡ Ok tt → (n : ℕ) → n < length ps → buffer_verdict m (get_or ps n no_buffer) ≡ Ok tt
-judged_each m i [] e n a = let f : ⊥ = omega arith in absurd f
+judged_each m i [] e n a = absurd (omega arith)
 judged_each m i (b ∷ bs) e zero a = piece_ok i (buffer_verdict m b) (both_ok (in_piece BadPlace i (buffer_verdict m b)) (pieces_from m (suc i) bs) e).0
 judged_each m i (b ∷ bs) e (suc n) a = judged_each m (suc i) bs (both_ok (in_piece BadPlace i (buffer_verdict m b)) (pieces_from m (suc i) bs) e).1 n (omega arith)
 

@@ -1,9 +1,9 @@
 -- Runs of stores and reads within a page, and two of them for a packet.
 use Rattle.std.proofs.Common.{◌≡◌, ℕ, zero, suc, ◌+◌, ◌-◌, ◌/◌, ◌%◌, ◌<◌, ◌≤◌, List, [], ◌∷◌, ◌++◌, length, get_or, take, drop, set, replicate, sym, refl, ap, ◌∙◌, inl, inr, le_refl, add-zero, add-suc, suc-add, zero-add, add-one, arith}
 use lib.Seq.{sets, sets-eq}
-use borrow.Rule.Slice.PartMut.{put_mid, post_of}
+use borrow.Rule.Slice.PartMut.{put_mid}
 use Rattle.std.proofs.lemmas.Slice.{put_mid-paste}
-use Rattle.std.proofs.lemmas.List.{take_all, set_past, length-set, length-take-le, length-drop, take-append-drop, drop_more, get_or_past, take_at, drop_at, drop_all, append-nil}
+use Rattle.std.proofs.lemmas.List.{take_all, set_past, length-set, length-take-le, length-drop, take-append-drop, drop_more, get_or_past, take_at, drop_at, drop_all, append-nil, length-append}
 use Rattle.std.proofs.lemmas.Bool.{cases_lt}
 use Rattle.memory.specs.declared.buffer.Buffer.{Buffer}
 use Rattle.memory.specs.Walk.{offset}
@@ -95,12 +95,12 @@ two_reads m b at head n h a z =
     sym (ap (gathered (place m b) m at) (sym k) ∙ e ∙ rw (s, t))
 
 -- two parts written side by side
-pub two_parts : (us bs xs : List ℕ) (head n : ℕ) → length us ≡ head → length xs ≡ n → head ≤ n
-    → put_mid head (n - head) (us ++ post_of 0 (head - 0) xs) bs ≡ us ++ bs
-two_parts us bs xs head n a x h =
-    let t = take_at us (drop (head - 0) xs) head a in
-    let u = drop_at us (drop (head - 0) xs) head a in
-    let v : drop (n - head) (drop (head - 0) xs) ≡ [] = drop_all (n - head) (drop (head - 0) xs) (simp length-drop (omega arith)) in
+pub two_parts : (us bs xs : List ℕ) (head : ℕ) → length us ≡ head
+    → put_mid head (length (us ++ drop head xs) - head) (us ++ drop head xs) bs ≡ us ++ bs
+two_parts us bs xs head a =
+    let t = take_at us (drop head xs) head a in
+    let u = drop_at us (drop head xs) head a in
+    let v : drop (length (us ++ drop head xs) - head) (drop head xs) ≡ [] = drop_all (length (us ++ drop head xs) - head) (drop head xs) (omega (arith, length-append us (drop head xs))) in
     rw (t, u, v, append-nil bs)
 
 -- stores past the end do nothing, so those before the end are all
@@ -108,7 +108,7 @@ pub sets_cut : (l : List ℕ) (i n : ℕ) (xs : List ℕ) → (i + n < length l 
 sets_cut l i zero [] h = refl
 sets_cut l i (suc n) [] h = refl
 sets_cut l i zero (x ∷ xs) h = elim (cases_lt (i + 0) (length l)) [
-  | inl a ↦ (let z : suc (length xs) ≤ 0 = h a in let f : ⊥ = omega arith in absurd f)
+  | inl a ↦ (let z : suc (length xs) ≤ 0 = h a in absurd (omega arith))
   | inr a ↦ sym (sets_past l i (x ∷ xs) (omega arith))
 ]
 sets_cut l i (suc n) (x ∷ xs) h = sets_cut (set l i x) (suc i) n xs

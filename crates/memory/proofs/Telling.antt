@@ -1,5 +1,5 @@
 -- What the verdicts tell is the first at fault, in the order of naming.
-use Rattle.std.proofs.Common.{◌≡◌, ℕ, zero, suc, ◌+◌, ◌*◌, ◌/◌, ◌%◌, ◌<◌, ◌≤◌, cond, ◌&&◌, ◌||◌, eqb, ltb, leb, ◌⊎◌, List, [], ◌∷◌, length, get_or, Ok, Err, Result, sym, refl, ap, ◌∙◌, subst, inl, inr, add-zero, add-suc, suc-add, zero-add, arith}
+use Rattle.std.proofs.Common.{◌≡◌, ℕ, zero, suc, ◌+◌, ◌*◌, ◌/◌, ◌%◌, ◌^◌, ◌<◌, ◌≤◌, cond, ◌&&◌, ◌||◌, eqb, ltb, leb, ◌⊎◌, List, [], ◌∷◌, length, get_or, Ok, Err, Result, sym, refl, ap, ◌∙◌, subst, inl, inr, add-zero, add-suc, suc-add, zero-add, arith}
 use Rattle.std.proofs.lemmas.Bool.{cases_lt, cases_eq, lt-ltb, le-ltb, le-leb, lt-leb, eq-eqb, ne_eqb, or_from, or_left, or_right, and_from, and_left, and_right, cond-true, cond-false}
 use Rattle.refusal.specs.declared.reason.Refusal.{Refusal}
 use Rattle.refusal.specs.declared.reason.Refusal.TheVariants.{BadPlace}
@@ -11,7 +11,8 @@ use Rattle.memory.specs.declared.judge.BadEntry.{BadEntry}
 use Rattle.memory.specs.declared.judge.Part.{Part}
 use Rattle.memory.specs.declared.judge.Part.TheVariants.{Whole, Entry}
 use Rattle.memory.specs.Kinds.{each}
-use Rattle.memory.specs.Walk.{entry, page_count}
+use Rattle.memory.specs.Walk.{entry, Lies, page_count}
+use Rattle.memory.proofs.Entries.{entry_astray}
 use Rattle.memory.specs.Judge.{Verdict, and_then, in_entry, in_piece, spot_of, entry_verdict, entries_from, list_verdict, direct_verdict, buffer_verdict, pieces_from}
 use Rattle.memory.specs.Faults.{Fault, Before, Earlier, Told, Stray, StrayIn, Astray, ListAstray, Misplaced, MisplacedIn, PlacesTold, no_buffer}
 
@@ -33,6 +34,11 @@ entry_decides m l k =
         ])
       ])
     ]
+
+pub missing_bad : (m : List ℕ) (l k : ℕ) → length m < 2 ^ 64 → (Lies m l k → ⊥) → entry_verdict m l k ≡ Err (record {})
+missing_bad m l k h n =
+    let e : (entry m l k).0 ≡ 4503599627370496 = ap (λ (p : ℕ × ℕ). p.0) (entry_astray m l k n) in
+    elim (entry_decides m l k) [ inl d ↦ absurd (d.1 (inl (omega arith))) | inr d ↦ d.0 ]
 
 -- of the entries from k on, n of them, none is at fault or the first is told
 abbrev pub EntriesTold : List ℕ → ℕ → ℕ → ℕ → Verdict Part → Type 0
@@ -199,6 +205,9 @@ judging m ps = told_like BadPlace (FaultFrom m 0 ps) (MisplacedIn m ps)
     (omega (arith, x.1), subst (λ (n : ℕ). Misplaced m (get_or ps n no_buffer) f.part) e x.3)))
     (λ f x. (f.piece, x.0, sym (zero-add f.piece), x.1))
     (pieces_from m 0 ps) (pieces_told m 0 ps)
+
+pub places_told : (m : List ℕ) (ps : List Buffer) (r : Verdict Refusal) → r ≡ pieces_from m 0 ps → PlacesTold m ps r
+places_told m ps r e = subst (PlacesTold m ps) (sym e) (judging m ps)
 
 -- of two faults that differ one comes first
 pub parts_order : (r s : Part) → (r ≡ s) ⊎ (Before r s ⊎ Before s r)

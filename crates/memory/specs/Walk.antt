@@ -1,5 +1,5 @@
 -- The walk to a byte of a buffer: a page number and an offset in that page.
-use Rattle.std.specs.Prelude.{ℕ, ◌+◌, ◌*◌, ◌/◌, ◌%◌, cond, ◌&&◌, List, length, nat_le, slice_index}
+use Rattle.std.specs.Prelude.{ℕ, ◌+◌, ◌*◌, ◌/◌, ◌%◌, ◌≤◌, cond, ◌&&◌, List, length, nat_le, slice_index}
 use Rattle.memory.specs.declared.buffer.Buffer.{Buffer}
 use Rattle.memory.specs.Kinds.{each}
 
@@ -19,6 +19,10 @@ unfoldable pub entry : List ℕ → ℕ → ℕ → ℕ × ℕ
 entry m list k =
     cond (nat_le (list % 4096 + 8 * k + 8) 4096 && nat_le (list + 8 * k + 8) (length m))
     (word m (list + 8 * k) / 4096, word m (list + 8 * k) % 4096) (nowhere, 0)
+
+-- entry k of the page list at `list` is in the list's page of memory
+abbrev pub Lies : List ℕ → ℕ → ℕ → Type 0
+Lies m list k = (list % 4096 + 8 * k + 8 ≤ 4096) × (list + 8 * k + 8 ≤ length m)
 
 -- the offset of a buffer's first byte in its page
 abbrev pub offset : List ℕ → Buffer → ℕ

@@ -1,7 +1,7 @@
 //! What a driver hands in: where the bytes of a piece lie, and how many there are.
 
 /// How a buffer's address is meant.
-#[derive(Clone, Copy)]
+#[derive(Clone, Copy, Debug, PartialEq, Eq)]
 pub enum Kind {
     /// It is the address of the bytes themselves.
     Direct,
@@ -10,7 +10,7 @@ pub enum Kind {
 }
 
 /// The bytes of a piece: at an address, or in the pages that a list names.
-#[derive(Clone, Copy)]
+#[derive(Clone, Copy, Debug, PartialEq, Eq)]
 pub struct Buffer {
     pub kind: Kind,
     pub address: u64,

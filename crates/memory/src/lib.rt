@@ -8,7 +8,6 @@ mod pages;
 mod theorems;
 
 pub use buffer::{Buffer, Kind};
-pub use judge::{BadEntry, Part, judge_buffer, judge_pieces, judge_size};
-pub use packets::{read_packet, write_packet};
-pub use pages::{offset_of, page_count, page_of, walk};
+pub use judge::{BadEntry, Part, judge_pieces, judge_size};
+pub use pages::PAGE;
 pub use theorems::{faults_are_one, packets_are_kept, strays_have_no_place, walk_crosses_pages};

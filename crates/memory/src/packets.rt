@@ -1,64 +1,70 @@
 //! Packets into and out of a buffer, by runs within a page.
-ghost use Rattle.std.specs.Prelude.{◌≡◌, ℕ, ◌+◌, ◌-◌, ◌*◌, ◌/◌, ◌%◌, ◌^◌, ◌<◌, ◌≤◌, length};
+ghost use Rattle.std.specs.Prelude.{◌≡◌, ℕ, ◌+◌, ◌-◌, ◌*◌, ◌/◌, ◌%◌, ◌^◌, ◌<◌, ◌≤◌, length, SomeIff};
 ghost use Rattle.std.proofs.lemmas.List.Edits.{sets};
-ghost use Rattle.memory.specs.Store.{stored, gathered, place, Written, Read};
+ghost use Rattle.memory.specs.Store.{gathered, Written, Read};
 
 use crate::buffer::Buffer;
-use crate::pages::walk;
+use crate::pages::PAGE;
 
-/// Copies bytes to a place in a page, as far as memory goes.
-fn write_run(memory: &mut [u8], page: usize, offset: usize, bytes: &[u8])
-    ensures { memory.new ≡ sets memory.old (page * 4096 + offset) bytes.now }
+/// The address of a place, a page number and an offset in the page; none where memory does not go so far.
+fn address(memory: &[u8], place: (usize, usize)) -> Option<usize>
+    ensures { SomeIff result (place.0 * 4096 + place.1 < length memory.now) (place.0 * 4096 + place.1) }
 {
-    let size = memory.len();
-    if page <= size / 4096 && offset < size - page * 4096 {
-        let from = page * 4096 + offset;
-        let count = bytes.len().min(size - from);
-        memory[from..from + count].copy_from_slice(&bytes[0..count]);
+    let (page, offset) = place;
+    let from = page.checked_mul(PAGE)?.checked_add(offset)?;
+    (from < memory.len()).then_some(from)
+}
+
+/// Copies bytes to a place, as far as memory goes.
+fn write_run(memory: &mut [u8], place: (usize, usize), bytes: &[u8])
+    ensures { memory.new ≡ sets memory.old (place.0 * 4096 + place.1) bytes.now }
+{
+    if let Some(from) = address(memory, place) {
+        let count = bytes.len().min(memory.len() - from);
+        memory[from..from + count].copy_from_slice(&bytes[..count]);
     }
 }
 
-/// Writes a packet into a buffer from its byte `at` on. It lies in two pages at most; both are looked up before a byte is written.
-pub fn write_packet(memory: &mut [u8], buffer: Buffer, at: u32, bytes: &[u8])
-    ensures { Written memory.old buffer at bytes.now memory.new }
+/// Copies bytes from a place, as far as memory goes; zeros from there on.
+fn read_run(memory: &[u8], place: (usize, usize), into: &mut [u8])
+    ensures { into.new ≡ gathered (λ j. j) memory.now (place.0 * 4096 + place.1) (length into.old) }
 {
-    if bytes.len() > 4096 {
-        return;
-    }
-    let (page, offset) = walk(memory, buffer, at as usize);
-    let head = bytes.len().min(4096 - offset);
-    let (next, start) = walk(memory, buffer, at as usize + head);
-    write_run(memory, page, offset, &bytes[0..head]);
-    write_run(memory, next, start, &bytes[head..]);
-}
-
-/// Copies bytes from a place in a page, as far as memory goes; zeros from there on.
-fn read_run(memory: &[u8], page: usize, offset: usize, into: &mut [u8])
-    ensures { into.new ≡ gathered (λ j. j) memory.now (page * 4096 + offset) (length into.old) }
-{
-    let size = memory.len();
-    let room = into.len();
-    if page <= size / 4096 && offset < size - page * 4096 {
-        let from = page * 4096 + offset;
-        let count = room.min(size - from);
-        into[0..count].copy_from_slice(&memory[from..from + count]);
-        into[count..room].fill(0);
-    } else {
-        into.fill(0);
+    match address(memory, place) {
+        Some(from) => {
+            let count = into.len().min(memory.len() - from);
+            into[..count].copy_from_slice(&memory[from..from + count]);
+            into[count..].fill(0);
+        }
+        None => into.fill(0),
     }
 }
 
-/// Reads a packet out of a buffer from its byte `at` on, as many bytes as there is room for.
-pub fn read_packet(memory: &[u8], buffer: Buffer, at: u32, into: &mut [u8])
-    ensures { Read memory.now buffer at into.old into.new }
-{
-    let room = into.len();
-    if room > 4096 {
-        return;
+impl Buffer {
+    /// Writes a packet from byte `at` on. It lies in two pages at most; both are looked up before a byte is written.
+    pub fn write(self, memory: &mut [u8], at: u32, bytes: &[u8])
+        ensures { Written memory.old self at bytes.now memory.new }
+    {
+        if bytes.len() > PAGE {
+            return;
+        }
+        let first = self.walk(memory, at as usize);
+        let head = bytes.len().min(PAGE - first.1);
+        let next = self.walk(memory, at as usize + head);
+        write_run(memory, first, &bytes[..head]);
+        write_run(memory, next, &bytes[head..]);
     }
-    let (page, offset) = walk(memory, buffer, at as usize);
-    let head = room.min(4096 - offset);
-    let (next, start) = walk(memory, buffer, at as usize + head);
-    read_run(memory, page, offset, &mut into[0..head]);
-    read_run(memory, next, start, &mut into[head..room]);
+
+    /// Reads a packet from byte `at` on, as many bytes as there is room for.
+    pub fn read(self, memory: &[u8], at: u32, into: &mut [u8])
+        ensures { Read memory.now self at into.old into.new }
+    {
+        if into.len() > PAGE {
+            return;
+        }
+        let first = self.walk(memory, at as usize);
+        let head = into.len().min(PAGE - first.1);
+        let next = self.walk(memory, at as usize + head);
+        read_run(memory, first, &mut into[..head]);
+        read_run(memory, next, &mut into[head..]);
+    }
 }

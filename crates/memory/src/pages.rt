@@ -1,88 +1,99 @@
 //! The walk to a byte of a buffer.
-ghost use Rattle.std.specs.Prelude.{◌≡◌, ℕ, ◌+◌, ◌-◌, ◌*◌, ◌/◌, ◌%◌, ◌^◌, ◌<◌, ◌≤◌, length};
-ghost use Rattle.memory.specs.Walk.{word, entry, offset, page, page_count, walked};
+ghost use Rattle.std.specs.Prelude.{◌≡◌, ℕ, ◌+◌, ◌-◌, ◌*◌, ◌/◌, ◌%◌, ◌^◌, ◌<◌, ◌≤◌, length, SomeIff};
+ghost use Rattle.memory.specs.Walk.{word, entry, Lies, offset, page, page_count, walked};
 
 use crate::buffer::{Buffer, Kind};
+
+/// The size of a page in bytes.
+pub const PAGE: usize = 4096;
 
 /// A page number that no address has: the page of a byte without a place.
 const NOWHERE: usize = 4503599627370496;
 
-/// Eight bytes of memory, the low one first.
-fn word_at(memory: &[u8], at: usize) -> u64
-    requires { at + 8 ≤ length memory.now }
-    ensures { result ≡ word memory.now at }
+/// Eight bytes of memory, the low one first; none where they are not all in memory.
+fn word_at(memory: &[u8], at: usize) -> Option<u64>
+    ensures { SomeIff result (at + 8 ≤ length memory.now) (word memory.now at) }
 {
-    u64::from_le_bytes([
-        memory[at],
-        memory[at + 1],
-        memory[at + 2],
-        memory[at + 3],
-        memory[at + 4],
-        memory[at + 5],
-        memory[at + 6],
-        memory[at + 7],
-    ])
+    let bytes = memory.get(at..)?.first_chunk()?;
+    Some(u64::from_le_bytes(*bytes))
 }
 
-/// Entry k of a page list: its page number and its low 12 bits; no page where it is not in the list's page of memory.
-pub(crate) fn entry_at(memory: &[u8], list: u64, k: usize) -> (usize, usize)
-    ensures { result ≡ entry memory.now list k }
-{
-    let size = memory.len();
-    let first = list as usize;
-    if k >= 512 || first % 4096 + 8 * k + 8 > 4096 {
-        return (NOWHERE, 0);
+impl Buffer {
+    /// Entry k of the page list at the address: its page number and its low 12 bits; none where it is not in the list's page of memory.
+    pub(crate) fn entry(self, memory: &[u8], k: usize) -> Option<(usize, usize)>
+        ensures { SomeIff result (Lies memory.now self.address k) (entry memory.now self.address k) }
+    {
+        let list = self.address as usize;
+        if k >= 512 || list % PAGE + 8 * k + 8 > PAGE {
+            return None;
+        }
+        let word = word_at(memory, list + 8 * k)? as usize;
+        Some((word / PAGE, word % PAGE))
     }
-    if first > size || 8 * k + 8 > size - first {
-        return (NOWHERE, 0);
+
+    /// The offset of the first byte in its page.
+    pub fn offset(self, memory: &[u8]) -> usize
+        ensures value { result ≡ offset memory.now self }
+        ensures small { result < 4096 }
+    {
+        match self.kind {
+            Kind::Direct => self.address as usize % PAGE,
+            Kind::Listed => self.entry(memory, 0).map_or(0, |(_, low)| low),
+        }
     }
-    let word = word_at(memory, first + 8 * k) as usize;
-    (word / 4096, word % 4096)
-}
 
-/// The offset of a buffer's first byte in its page.
-pub fn offset_of(memory: &[u8], buffer: Buffer) -> usize
-    ensures { result ≡ offset memory.now buffer }
-{
-    match buffer.kind {
-        Kind::Direct => buffer.address as usize % 4096,
-        Kind::Listed => entry_at(memory, buffer.address, 0).1,
+    /// The number of page k, from 0.
+    fn page_at(self, memory: &[u8], k: usize) -> usize
+        requires { k < 2 ^ 63 }
+        ensures { result ≡ page memory.now self k }
+    {
+        match self.kind {
+            Kind::Direct => self.address as usize / PAGE + k,
+            Kind::Listed => self.entry(memory, k).map_or(NOWHERE, |(page, _)| page),
+        }
     }
-}
 
-/// The number of a buffer's page k, from 0.
-fn page_at(memory: &[u8], buffer: Buffer, k: usize) -> usize
-    requires { k < 2 ^ 63 }
-    ensures { result ≡ page memory.now buffer k }
-{
-    match buffer.kind {
-        Kind::Direct => buffer.address as usize / 4096 + k,
-        Kind::Listed => entry_at(memory, buffer.address, k).0,
+    /// The number of page k, from 0.
+    // Beside `page_at`, since every `u32` may be asked for, and the walk goes beyond them.
+    pub fn page(self, memory: &[u8], k: u32) -> usize
+        ensures { result ≡ page memory.now self k }
+    {
+        self.page_at(memory, k as usize)
     }
-}
 
-/// The number of a buffer's page k, from 0.
-pub fn page_of(memory: &[u8], buffer: Buffer, k: u32) -> usize
-    ensures { result ≡ page memory.now buffer k }
-{
-    page_at(memory, buffer, k as usize)
-}
+    /// How many pages its bytes lie in, the first of them at an offset in its page.
+    fn pages_from(self, offset: usize) -> usize
+        requires { offset < 4096 }
+        ensures counted { result ≡ (offset + self.length + 4095) / 4096 }
+        ensures small { result < 2 ^ 21 }
+    {
+        (offset + self.length as usize).div_ceil(PAGE)
+    }
 
-/// How many pages a buffer's bytes lie in; of a page list, how many entries it has.
-pub fn page_count(memory: &[u8], buffer: Buffer) -> usize
-    ensures counted { result ≡ page_count memory.now buffer }
-    ensures small { result < 2 ^ 21 }
-{
-    (offset_of(memory, buffer) + buffer.length as usize + 4095) / 4096
-}
+    /// How many pages its bytes lie in; of a page list, how many entries it has.
+    pub fn page_count(self, memory: &[u8]) -> usize
+        ensures counted { result ≡ page_count memory.now self }
+        ensures small { result < 2 ^ 21 }
+    {
+        self.pages_from(self.offset(memory))
+    }
 
-/// The page number and the offset of a byte of a buffer.
-pub fn walk(memory: &[u8], buffer: Buffer, byte: usize) -> (usize, usize)
-    ensures { result ≡ walked memory.now buffer byte }
-{
-    let reach = offset_of(memory, buffer) + byte % 4096;
-    (
-        page_at(memory, buffer, byte / 4096 + reach / 4096),
-        reach % 4096,
-    )
+    /// How many pages its bytes lie in where the address is theirs: a direct buffer's page count, without a look at memory.
+    pub fn direct_pages(self) -> usize
+        ensures counted { result ≡ (self.address % 4096 + self.length + 4095) / 4096 }
+        ensures small { result < 2 ^ 21 }
+    {
+        self.pages_from(self.address as usize % PAGE)
+    }
+
+    /// The page number and the offset of a byte.
+    pub fn walk(self, memory: &[u8], byte: usize) -> (usize, usize)
+        ensures { result ≡ walked memory.now self byte }
+    {
+        let reach = self.offset(memory) + byte % PAGE;
+        (
+            self.page_at(memory, byte / PAGE + reach / PAGE),
+            reach % PAGE,
+        )
+    }
 }

@@ -1,32 +1,23 @@
 //! What holds of every memory, each on a contract of its own.
-ghost use Rattle.refusal.specs.declared.reason.Refusal.TheVariants.{BadPlace};
 ghost use Rattle.memory.specs.Faults.{PlaceAnswers};
 ghost use Rattle.memory.specs.Kept.{Crosses, Placeless, Keeps};
 
 /// The walk from one page of a list to the next.
-pub fn walk_crosses_pages() -> u8
+pub fn walk_crosses_pages()
     ensures { Crosses }
-{
-    0
-}
+{}
 
 /// A byte whose entry strays is neither written nor read.
-pub fn strays_have_no_place() -> u8
+pub fn strays_have_no_place()
     ensures { Placeless }
-{
-    0
-}
+{}
 
 /// A packet stored in pages that all differ reads back, and no other byte moved.
-pub fn packets_are_kept() -> u8
+pub fn packets_are_kept()
     ensures { Keeps }
-{
-    0
-}
+{}
 
 /// The law of faults leaves one answer, that of the judging.
-pub fn faults_are_one() -> u8
+pub fn faults_are_one()
     ensures { PlaceAnswers }
-{
-    0
-}
+{}

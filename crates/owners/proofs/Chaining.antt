@@ -1,5 +1,6 @@
 -- Claims of namings, one after another.
-use Rattle.std.proofs.Common.{◌≡◌, ℕ, zero, suc, ◌+◌, ◌-◌, ◌<◌, ◌≤◌, List, [], ◌∷◌, ◌++◌, get_or, set, Some, None, Ok, Err, Result, sym, refl, ap, ◌∙◌, add-zero, zero-add, add-one, arith}
+use Rattle.std.proofs.Common.{◌≡◌, ℕ, zero, suc, ◌+◌, ◌-◌, ◌<◌, List, [], ◌∷◌, ◌++◌, get_or, set, true, false, is_some, Some, None, Ok, Err, Option, Result, sym, refl, ap, ◌∙◌, add-zero, zero-add, add-one, arith}
+use Rattle.std.proofs.lemmas.Bool.{false≢true}
 use Rattle.refusal.specs.declared.reason.Refusal.{Refusal}
 use Rattle.refusal.specs.declared.reason.Refusal.TheVariants.{PageTaken}
 use Rattle.memory.specs.declared.buffer.Buffer.{Buffer}
@@ -29,6 +30,14 @@ claimed_append ow t [] ys = refl
 claimed_append ow t (x ∷ xs) ys =
     next_cong (take_page t x.1 x.0 (ow x.0.piece)) (λ u. claimed ow u (xs ++ ys)) (λ u. next (claimed ow u xs) (λ v. claimed ow v ys)) (λ u. claimed_append ow u xs ys)
     ∙ sym (next_assoc (take_page t x.1 x.0 (ow x.0.piece)) (λ u. claimed ow u xs) (λ u. claimed ow u ys))
+
+pub held_some : (v : Option Owner) → is_some v ≡ true → (h : Owner) × (v ≡ Some h)
+held_some None e = absurd (false≢true e)
+held_some (Some h) e = (h, refl)
+
+pub held_none : (v : Option Owner) → is_some v ≡ false → v ≡ None
+held_none None e = refl
+held_none (Some h) e = absurd (false≢true (sym e))
 
 -- a free page is taken, an owned one refused
 pub take_free : (t : Table) (q : ℕ) (f : Fault) (o : Owner) → get_or t q None ≡ None → take_page t q f o ≡ Ok (set t q (Some o))
@@ -72,6 +81,3 @@ pub left_owned : (ow : ℕ → Owner) (m : List ℕ) (i : ℕ) (b : Buffer) (t :
 left_owned ow m i b t j n h l f =
     ap (claimed ow t) (namings_more m i b j n l)
     ∙ ap (λ (r : Claim). next r (λ v. claimed ow v (buffer_namings m i b (j + 1) (n - (j + 1))))) (take_owned t (named m b j) (naming_at m i b j).0 (ow i) h f)
-
-pub left_none : (ow : ℕ → Owner) (m : List ℕ) (i : ℕ) (b : Buffer) (t : Table) (j n : ℕ) → n ≤ j → claimed ow t (buffer_namings m i b j (n - j)) ≡ Ok t
-left_none ow m i b t j n l = let e : n - j ≡ 0 = omega arith in rw e

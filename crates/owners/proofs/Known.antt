@@ -64,7 +64,7 @@ names_listed m b z e = names_some m b z ∙ ap (λ d. each d (page_count m b) (p
 -- what names a page has bytes
 pub names_bytes : (m : List ℕ) (b : Buffer) (j : ℕ) → j < names m b → 0 < b.length
 names_bytes m b j h = elim (cases_eq b.length 0)
-    [ inl z ↦ (let e = names_none m b z in let f : ⊥ = omega arith in absurd f) | inr z ↦ omega arith ]
+    [ inl z ↦ (let e = names_none m b z in absurd (omega arith)) | inr z ↦ omega arith ]
 
 -- a buffer that is judged well, by its kind
 pub direct_lies : (m : List ℕ) (b : Buffer) → buffer_verdict m b ≡ Ok tt → 0 < b.length → b.kind ≡ Direct → (b.length ≤ 4096) × (b.address + b.length ≤ length m)

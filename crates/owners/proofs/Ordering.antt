@@ -64,7 +64,7 @@ pub taken_down : (t : Table) (x : Naming) (xs : List Naming) (o : Owner) → Ord
     → (f : Fault) → TakenOf t (x ∷ xs) f → TakenOf (set t x.1 (Some o)) xs f
 taken_down t x xs o ord lt fr f (q, i, w) = elim i [
   | inl a ↦ absurd (elim w [
-    | inl b ↦ (let g : Some b.0 ≡ None = sym b.1 ∙ sym (ap (λ n. get_or t n None) a.1) ∙ fr in let z : ◌≡◌ {A = ℕ} 0 1 = cc in omega arith)
+    | inl b ↦ (let g : Some b.0 ≡ None = sym b.1 ∙ sym (ap (λ n. get_or t n None) a.1) ∙ fr in cc)
     | inr b ↦ after_head x xs ord b.0 q b.2 (subst (λ (h : Fault). Earlier b.0 h) (sym a.0) b.1)
   ])
   | inr a ↦ (
@@ -82,7 +82,7 @@ taken_down t x xs o ord lt fr f (q, i, w) = elim i [
   where
     keep : (q : ℕ) (v : Owner) → get_or t q None ≡ Some v → get_or (set t x.1 (Some o)) q None ≡ Some v
     keep q v e =
-        let ne : q ≢ x.1 = λ y. (let g : Some v ≡ None = sym e ∙ ap (λ n. get_or t n None) y ∙ fr in let z : ◌≡◌ {A = ℕ} 0 1 = cc in omega arith) in
+        let ne : q ≢ x.1 = λ y. (let g : Some v ≡ None = sym e ∙ ap (λ n. get_or t n None) y ∙ fr in cc) in
         get_or-set_other t x.1 q (Some o) None ne ∙ e
 
 pub taken_up : (t : Table) (x : Naming) (xs : List Naming) (o : Owner) → Ordered (x ∷ xs) → x.1 < length t

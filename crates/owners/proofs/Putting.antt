@@ -1,8 +1,8 @@
 -- What a Put is told: the verdict is what the law says.
-use Rattle.std.proofs.Common.{◌≡◌, ℕ, zero, suc, ◌+◌, ◌-◌, ◌*◌, ◌/◌, ◌<◌, ◌≤◌, Bool, true, false, cond, eqb, ltb, List, length, get_or, Some, None, Ok, Err, Option, sym, refl, ap, ◌∙◌, subst, inl, inr, arith}
-use lib.Seq.{sets}
+use Rattle.std.proofs.Common.{◌≡◌, ℕ, zero, suc, ◌+◌, ◌*◌, ◌/◌, ◌<◌, ◌≤◌, Bool, true, false, cond, eqb, ltb, ◌&&◌, is_none, List, length, get_or, Some, None, Ok, Err, Option, sym, refl, ap, ◌∙◌, subst, inl, inr, add-one, arith}
+use Rattle.std.specs.List.{list_all, range_with_len}
+use Rattle.std.proofs.lemmas.Option.{none-some}
 use Rattle.std.proofs.lemmas.Bool.{cases_lt, cases_eq, cases_Bool, lt-ltb, le-ltb, eq-eqb, ne_eqb, cond-true, cond-false}
-use Rattle.std.proofs.lemmas.List.{nil_from_length}
 use Rattle.refusal.specs.declared.reason.Refusal.{Refusal}
 use Rattle.refusal.specs.declared.reason.Refusal.TheVariants.{WrongSize, BadPlace, PageTaken}
 use Rattle.refusal.specs.declared.reason.Spot.TheVariants.{Call}
@@ -11,29 +11,29 @@ use Rattle.owners.specs.declared.table.Owner.{Owner}
 use Rattle.owners.specs.Claims.{Table}
 use Rattle.owners.specs.Puts.{when_none, all_free, span, place_verdict, put_verdict, Meets, PutTold}
 
-pub free_step : (t : Table) (p k n : ℕ) → k < n → all_free t (p + k) (n - k) ≡ when_none (get_or t (p + k) None) (all_free t (p + (k + 1)) (n - (k + 1)))
-free_step t p k n h =
-    let e : n - k ≡ suc (n - (k + 1)) = omega arith in
-    let f : p + (k + 1) ≡ suc (p + k) = omega arith in
-    rw (e, f)
-
-pub never_both : (v : Option Owner) (o : Owner) → v ≡ None → v ≡ Some o → ⊥
-never_both v o a b = let z : ◌≡◌ {A = ℕ} 0 1 = cc in omega arith
+pub free_all : (t : Table) (p n : ℕ) → list_all (λ (k : ℕ). is_none (get_or t k None)) (range_with_len p n) ≡ all_free t p n
+free_all t p zero = refl
+free_all t p (suc n) = ap (λ (r : Bool). is_none (get_or t p None) && r) (ap (λ (k : ℕ). list_all (λ (k : ℕ). is_none (get_or t k None)) (range_with_len k n)) (add-one p) ∙ free_all t (suc p) n)
+    ∙ none_and (get_or t p None) (all_free t (suc p) n)
+  where
+    none_and : (v : Option Owner) (r : Bool) → is_none v && r ≡ when_none v r
+    none_and None r = refl
+    none_and (Some o) r = refl
 
 pub when_none_lem : (v : Option Owner) (r : Bool) → when_none v r ≡ true → (v ≡ None) × (r ≡ true)
 when_none_lem None r e = (refl, e)
-when_none_lem (Some o) r e = let z : ◌≡◌ {A = ℕ} 0 1 = cc in let f : ⊥ = omega arith in absurd f
+when_none_lem (Some o) r e = absurd (cc)
 
 -- pages that are all free are each free
 pub free_each : (t : Table) (p n : ℕ) → all_free t p n ≡ true → (k : ℕ) → p ≤ k → k < p + n → get_or t k None ≡ None
-free_each t p zero e k a b = let f : ⊥ = omega arith in absurd f
+free_each t p zero e k a b = absurd (omega arith)
 free_each t p (suc n) e k a b =
     let w = when_none_lem (get_or t p None) (all_free t (suc p) n) e in
     elim (cases_eq k p) [ inl d ↦ ap (λ x. get_or t x None) d ∙ w.0 | inr d ↦ free_each t (suc p) n w.1 k (omega arith) (omega arith) ]
 
 -- of pages that are not all free one has an owner
 pub one_owned : (t : Table) (p n : ℕ) → all_free t p n ≡ false → (k : ℕ) × (p ≤ k) × (k < p + n) × ((o : Owner) × (get_or t k None ≡ Some o))
-one_owned t p zero e = let z : ◌≡◌ {A = ℕ} 0 1 = cc in let f : ⊥ = omega arith in absurd f
+one_owned t p zero e = absurd (cc)
 one_owned t p (suc n) e = owned_step t p n (get_or t p None) refl (λ f. one_owned t (suc p) n f) e
   where
     owned_step : (t : Table) (p n : ℕ) (v : Option Owner) → get_or t p None ≡ v
@@ -48,8 +48,7 @@ one_owned t p (suc n) e = owned_step t p n (get_or t p None) refl (λ f. one_own
 
 -- bytes whose pages are all free meet no owner, and others meet one
 pub free_misses : (t : Table) (a n : ℕ) → all_free t (a / 4096) (span a n) ≡ true → Meets t a n → ⊥
-free_misses t a n y b = never_both (get_or t (b.0 / 4096) None) b.3.0
-    (free_each t (a / 4096) (span a n) y (b.0 / 4096) (omega (arith, b.1)) (omega (arith, b.1, b.2))) b.3.1
+free_misses t a n y b = none-some b.3.0 (sym (free_each t (a / 4096) (span a n) y (b.0 / 4096) (omega (arith, b.1)) (omega (arith, b.1, b.2))) ∙ b.3.1)
 
 pub owned_meets : (t : Table) (a n : ℕ) → 0 < n → all_free t (a / 4096) (span a n) ≡ false → Meets t a n
 owned_meets t a n z y =
@@ -110,14 +109,3 @@ put_law m pages t a n = record {
 
 pub law_of : (m : List ℕ) (pages : ℕ) (t : Table) (a n : ℕ) (r : V) → r ≡ put_verdict m pages t a n → PutTold m pages t a n r
 law_of m pages t a n r e = subst (PutTold m pages t a n) (sym e) (put_law m pages t a n)
-
-pub sets_none : (m : List ℕ) (a : ℕ) (xs : List ℕ) → length xs ≡ 0 → m ≡ sets m a xs
-sets_none m a xs h = rw (nil_from_length xs h)
-
--- memory whose size is accepted has it
-pub size_ok : (m : List ℕ) (pages : ℕ) (r : V) (u : Unit {0}) → r ≡ size_verdict m pages → r ≡ Ok u → length m ≡ pages * 4096
-size_ok m pages r u a b = elim (cases_eq (length m) (pages * 4096)) [
-  | inl e ↦ e
-  | inr e ↦ (let f = cond-false (eqb (length m) (pages * 4096)) good (Err WrongSize) (ne_eqb (length m) (pages * 4096) e) in
-      let z : ◌≡◌ {A = ℕ} 0 1 = cc in let g : ⊥ = omega arith in absurd g)
-]

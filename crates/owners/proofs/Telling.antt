@@ -35,7 +35,7 @@ abbrev at : ℕ → Part → Fault
 at i s = record { piece = i; part = s }
 
 pub in_pages : (m : List ℕ) (i : ℕ) (b : Buffer) (k n j : ℕ) → k ≤ j → j < k + n → In (at i (part_of b j)) (named m b j) (buffer_namings m i b k n)
-in_pages m i b k zero j a c = let g : ⊥ = omega arith in absurd g
+in_pages m i b k zero j a c = absurd (omega arith)
 in_pages m i b k (suc n) j a c = elim (cases_eq k j) [
   | inl e ↦ inl (ap (λ (x : ℕ). at i (part_of b x)) e, ap (named m b) e)
   | inr e ↦ inr (in_pages m i b (suc k) n j (omega arith) (omega arith))
@@ -75,7 +75,7 @@ in_from m i (p ∷ ps) f q h = elim (in_cases f q (buffer_namings m i p 0 (names
 ]
 
 pub from_in : (m : List ℕ) (i : ℕ) (ps : List Buffer) (s : Part) (q n : ℕ) → n < length ps → NamesAt m (get_or ps n no_buffer) s q → In (at (i + n) s) q (namings m i ps)
-from_in m i [] s q n a h = let g : ⊥ = omega arith in absurd g
+from_in m i [] s q n a h = absurd (omega arith)
 from_in m i (p ∷ ps) s q zero a h = in_left (at (i + 0) s) q (buffer_namings m i p 0 (names m p)) (namings m (suc i) ps) (subst (λ (x : ℕ). In (at x s) q (buffer_namings m i p 0 (names m p))) (sym (add-zero i)) (named_piece m i p s q h))
 from_in m i (p ∷ ps) s q (suc n) a h =
     let e : suc i + n ≡ i + suc n = omega arith in

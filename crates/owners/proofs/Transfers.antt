@@ -1,6 +1,6 @@
 -- Claims of a transfer's pieces, one after another, and their undoing.
-use Rattle.std.proofs.Common.{◌≡◌, ℕ, zero, suc, ◌+◌, ◌-◌, ◌%◌, ◌<◌, ◌≤◌, List, [], ◌++◌, length, get_or, drop, Ok, Err, Result, sym, refl, ap, ◌∙◌, add-one, arith}
-use Rattle.std.proofs.lemmas.List.{drop_more, drop_all}
+use Rattle.std.proofs.Common.{◌≡◌, ℕ, zero, suc, ◌+◌, ◌-◌, ◌%◌, ◌<◌, ◌≤◌, List, [], ◌++◌, length, get_or, take, drop, Ok, Err, Result, sym, refl, ap, ◌∙◌, add-one, arith}
+use Rattle.std.proofs.lemmas.List.{drop_more, drop_all, get_or-take}
 use Rattle.refusal.specs.declared.reason.Refusal.{Refusal}
 use Rattle.memory.specs.declared.buffer.Buffer.{Buffer}
 use Rattle.memory.specs.Faults.{no_buffer}
@@ -20,10 +20,10 @@ one_owner ow m i b t j (suc n) =
 -- what an answer and a table say of a claim
 pub was_ok : (x : Claim) (t t' : Table) (r : Result (Unit {0}) Refusal) (u : Unit {0}) → r ≡ answer x → t' ≡ after t x → r ≡ Ok u → x ≡ Ok t'
 was_ok (Ok v) t t' r u a b e = ap Ok (sym b)
-was_ok (Err f) t t' r u a b e = let z : ◌≡◌ {A = ℕ} 0 1 = cc in let g : ⊥ = omega arith in absurd g
+was_ok (Err f) t t' r u a b e = absurd (cc)
 
 pub was_err : (x : Claim) (t t' : Table) (r : Result (Unit {0}) Refusal) (f : Refusal) → r ≡ answer x → t' ≡ after t x → r ≡ Err f → (x ≡ Err f) × (t' ≡ t)
-was_err (Ok v) t t' r f a b e = let z : ◌≡◌ {A = ℕ} 0 1 = cc in let g : ⊥ = omega arith in absurd g
+was_err (Ok v) t t' r f a b e = absurd (cc)
 was_err (Err h) t t' r f a b e = (cc, b)
 
 -- the namings of the first n pieces
@@ -52,8 +52,12 @@ unclaim_all_step m ps t u i n h a e =
     let s : i ≡ suc (i - 1) = omega arith in
     ap (unclaimed_all m ps (i - 1)) (e ∙ ap (λ (k : ℕ). unclaimed m (get_or ps (i - 1) no_buffer) k t) a) ∙ sym (ap (λ (k : ℕ). unclaimed_all m ps k t) s)
 
-pub unclaim_all_none : (m : List ℕ) (ps : List Buffer) (t : Table) (i : ℕ) → i ≤ 0 → t ≡ unclaimed_all m ps i t
-unclaim_all_none m ps t i h = let e : i ≡ 0 = omega arith in rw e
+-- the first pieces are taken back whatever follows them
+pub unclaimed_take : (m : List ℕ) (ps : List Buffer) (i n : ℕ) (t : Table) → n ≤ i → unclaimed_all m (take i ps) n t ≡ unclaimed_all m ps n t
+unclaimed_take m ps i zero t h = refl
+unclaimed_take m ps i (suc n) t h =
+    let b : get_or (take i ps) n no_buffer ≡ get_or ps n no_buffer = get_or-take i ps n no_buffer (omega arith) in
+    rw b (unclaimed_take m ps i n (unclaimed m (get_or ps n no_buffer) (names m (get_or ps n no_buffer)) t) (omega arith))
 
 -- the pieces from i on: the first of them, and then the rest
 pub pieces_left : (ow : ℕ → Owner) (m : List ℕ) (ps : List Buffer) (t : Table) (i : ℕ) → i < length ps

@@ -1,5 +1,5 @@
 -- Taking back what was claimed gives the table that was.
-use Rattle.std.proofs.Common.{◌≡◌, ℕ, zero, suc, ◌-◌, ◌<◌, ◌≤◌, List, [], ◌∷◌, ◌++◌, get_or, set, Some, None, Ok, Err, Option, sym, refl, ap, ◌∙◌, zero-add, arith}
+use Rattle.std.proofs.Common.{◌≡◌, ℕ, zero, suc, List, [], ◌∷◌, ◌++◌, get_or, set, Some, None, Ok, Err, Option, sym, refl, ap, ◌∙◌, zero-add}
 use Rattle.std.proofs.lemmas.List.{set-set, set-get_or}
 use Rattle.memory.specs.declared.buffer.Buffer.{Buffer}
 use Rattle.memory.specs.Faults.{Fault}
@@ -14,7 +14,7 @@ same_table t u e = cc
 -- a run of claims that ends well: the first did, and then the rest
 pub next_ok : (r : Claim) (f : Table → Claim) (t' : Table) → next r f ≡ Ok t' → (u : Table) × (r ≡ Ok u) × (f u ≡ Ok t')
 next_ok (Ok u) f t' e = (u, refl, e)
-next_ok (Err x) f t' e = let z : ◌≡◌ {A = ℕ} 0 1 = cc in let g : ⊥ = omega arith in absurd g
+next_ok (Err x) f t' e = absurd (cc)
 
 pub page_ok : (t t' : Table) (q : ℕ) (f : Fault) (o : Owner) → take_page t q f o ≡ Ok t' → (get_or t q None ≡ None) × (set t q (Some o) ≡ t')
 page_ok t t' q f o e = go (get_or t q None) refl
@@ -23,7 +23,7 @@ page_ok t t' q f o e = go (get_or t q None) refl
     go None h = (h, same_table (set t q (Some o)) t' (sym (take_free t q f o h) ∙ e))
     go (Some w) h =
         let g = sym (take_owned t q f o w h) ∙ e in
-        let z : ◌≡◌ {A = ℕ} 0 1 = cc in let n : ⊥ = omega arith in absurd n
+        absurd (cc)
 
 pub set_undone : (t : Table) (q : ℕ) (v : Option Owner) → get_or t q None ≡ None → set (set t q v) q None ≡ t
 set_undone t q v h = set-set t q v None ∙ sym (ap (λ (x : Option Owner). set t q x) h) ∙ set-get_or t q None
@@ -43,11 +43,3 @@ undone ow m i b t t' zero e = sym (same_table t t' e)
 undone ow m i b t t' (suc n) e =
     let x = undone_last ow m i b t t' n e in
     ap (unclaimed m b n) x.2 ∙ undone ow m i b t x.0 n x.1
-
-pub unclaim_step : (m : List ℕ) (b : Buffer) (t u : Table) (j q : ℕ) → 0 < j → q ≡ named m b (j - 1) → u ≡ set t q None → unclaimed m b (j - 1) u ≡ unclaimed m b j t
-unclaim_step m b t u j q h a e =
-    let s : j ≡ suc (j - 1) = omega arith in
-    ap (unclaimed m b (j - 1)) (e ∙ ap (λ (x : ℕ). set t x None) a) ∙ sym (ap (λ (n : ℕ). unclaimed m b n t) s)
-
-pub unclaim_none : (m : List ℕ) (b : Buffer) (t : Table) (j : ℕ) → j ≤ 0 → t ≡ unclaimed m b j t
-unclaim_none m b t j h = let e : j ≡ 0 = omega arith in rw e

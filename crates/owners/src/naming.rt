@@ -1,10 +1,9 @@
 //! The pages that a buffer names, in the order of naming.
 ghost use Rattle.std.specs.Prelude.{◌≡◌, ℕ, ◌+◌, ◌-◌, ◌*◌, ◌/◌, ◌%◌, ◌^◌, ◌<◌, ◌≤◌, length};
-ghost use Rattle.memory.specs.Judge.{spot_of};
 ghost use Rattle.owners.specs.Naming.{names, named, part_of};
 
-use memory::{Buffer, Kind, page_count, page_of};
-use refusal::Spot;
+// Functions, since `Buffer` is of another crate: a trait for it alone would be no plainer.
+use memory::{Buffer, Kind, PAGE, Part};
 
 /// How many pages a buffer names.
 pub(crate) fn name_count(memory: &[u8], buffer: Buffer) -> u32
@@ -14,7 +13,7 @@ pub(crate) fn name_count(memory: &[u8], buffer: Buffer) -> u32
     if buffer.length == 0 {
         return 0;
     }
-    let count = page_count(memory, buffer) as u32;
+    let count = buffer.page_count(memory) as u32;
     match buffer.kind {
         Kind::Direct => count,
         Kind::Listed => count + 1,
@@ -25,30 +24,19 @@ pub(crate) fn name_count(memory: &[u8], buffer: Buffer) -> u32
 pub(crate) fn named_page(memory: &[u8], buffer: Buffer, j: u32) -> usize
     ensures { result ≡ named memory.now buffer j }
 {
-    match buffer.kind {
-        Kind::Direct => page_of(memory, buffer, j),
-        Kind::Listed => {
-            if j == 0 {
-                buffer.address as usize / 4096
-            } else {
-                page_of(memory, buffer, j - 1)
-            }
-        }
+    match (buffer.kind, j.checked_sub(1)) {
+        (Kind::Direct, _) => buffer.page(memory, j),
+        (Kind::Listed, None) => buffer.address as usize / PAGE,
+        (Kind::Listed, Some(k)) => buffer.page(memory, k),
     }
 }
 
-/// Where the j-th naming of piece i stands, as a refusal points at it.
-pub(crate) fn naming_spot(i: usize, buffer: Buffer, j: u32) -> Spot
-    ensures { result ≡ spot_of i (part_of buffer j) }
+/// The part of a buffer that names it.
+pub(crate) fn naming_part(buffer: Buffer, j: u32) -> Part
+    ensures { result ≡ part_of buffer j }
 {
-    match buffer.kind {
-        Kind::Direct => Spot::Piece(i),
-        Kind::Listed => {
-            if j == 0 {
-                Spot::Piece(i)
-            } else {
-                Spot::Entry(i, j as usize - 1)
-            }
-        }
+    match (buffer.kind, j.checked_sub(1)) {
+        (Kind::Listed, Some(k)) => Part::Entry(k as usize),
+        _ => Part::Whole,
     }
 }

@@ -2,25 +2,18 @@
 ghost use Rattle.std.specs.Prelude.{◌≡◌, ℕ, ◌+◌, ◌-◌, ◌*◌, ◌/◌, ◌%◌, ◌^◌, ◌<◌, ◌≤◌, length};
 ghost use Rattle.owners.specs.Puts.{all_free, put_verdict, put_memory, PutTold};
 
-use crate::table::{Owner, Owners, owner_at};
-use memory::judge_size;
+use crate::table::Owners;
+use memory::{PAGE, judge_size};
 use refusal::{Refusal, Spot};
 
-/// Whether `count` pages from a page on have no owner.
-fn all_free(table: &[Option<Owner>], page: usize, count: usize) -> bool
-    requires { page + count < 2 ^ 63 }
-    ensures { result ≡ all_free table.now page count }
-{
-    for k in 0..count {
-        let held = owner_at(table, page + k);
-        if let Some(_) = held {
-            return false;
-        }
-    }
-    true
-}
-
 impl Owners {
+    /// Whether the pages from `first` to before `end` have no owner.
+    fn all_free(&self, first: usize, end: usize) -> bool
+        ensures { result ≡ all_free self.now.table first (end - first) }
+    {
+        (first..end).all(|page| self.owner_at(page).is_none())
+    }
+
     /// Writes bytes to pages that nobody owns, all or none.
     pub fn put(
         &self,
@@ -34,20 +27,18 @@ impl Owners {
         ensures law { PutTold memory.old pages self.now.table address (length bytes.now) result }
     {
         judge_size(memory, pages)?;
-        let size = memory.len();
-        let count = bytes.len();
-        if count == 0 {
+        if bytes.is_empty() {
             return Ok(());
         }
         let from = address as usize;
-        if from > size || count > size - from {
-            return Err(Refusal::BadPlace(Spot::Call));
-        }
-        let first = from / 4096;
-        if !all_free(&self.table, first, (from + count - 1) / 4096 + 1 - first) {
+        let end = from
+            .checked_add(bytes.len())
+            .filter(|end| *end <= memory.len())
+            .ok_or(Refusal::BadPlace(Spot::Call))?;
+        if !self.all_free(from / PAGE, end.div_ceil(PAGE)) {
             return Err(Refusal::PageTaken(Spot::Call));
         }
-        memory[from..from + count].copy_from_slice(bytes);
+        memory[from..end].copy_from_slice(bytes);
         Ok(())
     }
 }

@@ -2,40 +2,36 @@
 ghost use Rattle.std.specs.Prelude.{◌≡◌, ℕ, ◌+◌, ◌-◌, ◌*◌, ◌/◌, ◌%◌, ◌^◌, ◌<◌, ◌≤◌, map, length};
 ghost use Rattle.owners.specs.Claims.{freed, freed_pages, released};
 
-use crate::table::{Owner, Owners, mark, owner_at};
-use memory::{Buffer, Kind};
+use crate::table::{Owner, Owners};
+use memory::{Buffer, Kind, PAGE};
 
 /// What a page's owner is once `owner` lets it go.
 fn kept(held: Option<Owner>, owner: Owner) -> Option<Owner>
     ensures { result ≡ freed owner held }
 {
-    match held {
-        Some(h) if h.set == owner.set && h.slot == owner.slot => None,
-        _ => held,
-    }
-}
-
-/// Lets go of `count` pages from a page on.
-fn release_run(table: &mut [Option<Owner>], page: usize, count: usize, owner: Owner)
-    requires { page + count < 2 ^ 63 }
-    ensures { table.new ≡ freed_pages owner table.old page count }
-{
-    for k in 0..count {
-        let held = owner_at(table, page + k);
-        mark(table, page + k, kept(held, owner));
-    }
-}
-
-/// Lets go of every page of an owner.
-fn release_all(table: &mut [Option<Owner>], owner: Owner)
-    ensures { table.new ≡ map (freed owner) table.old }
-{
-    for i in 0..table.len() {
-        table[i] = kept(table[i], owner);
-    }
+    held.filter(|holder| *holder != owner)
 }
 
 impl Owners {
+    /// Lets go of the pages from `first` to before `end`.
+    #[tactic(auto, using(crate::proofs::Freeing::freed_step))]
+    fn release_run(&mut self, first: usize, end: usize, owner: Owner)
+        ensures { self.new.table ≡ freed_pages owner self.old.table first (end - first) }
+    {
+        for page in first..end {
+            self.mark(page, kept(self.owner_at(page), owner));
+        }
+    }
+
+    /// Lets go of every page of an owner.
+    fn release_all(&mut self, owner: Owner)
+        ensures { self.new.table ≡ map (freed owner) self.old.table }
+    {
+        for held in self.table.iter_mut() {
+            *held = kept(*held, owner);
+        }
+    }
+
     /// Lets go of a piece's pages: a direct one's by its address, a listed one's by a look at every page.
     pub fn release(&mut self, buffer: Buffer, owner: Owner)
         ensures { self.new.table ≡ released owner buffer self.old.table }
@@ -45,11 +41,10 @@ impl Owners {
         }
         match buffer.kind {
             Kind::Direct => {
-                let from = buffer.address as usize;
-                let count = (from % 4096 + buffer.length as usize + 4095) / 4096;
-                release_run(&mut self.table, from / 4096, count, owner);
+                let first = buffer.address as usize / PAGE;
+                self.release_run(first, first + buffer.direct_pages(), owner);
             }
-            Kind::Listed => release_all(&mut self.table, owner),
+            Kind::Listed => self.release_all(owner),
         }
     }
 }

@@ -2,7 +2,7 @@
 ghost use Rattle.std.specs.Prelude.{◌≡◌, length, replicate, None, slice_index_or, slice_set};
 
 /// Who owns a page: the piece in a slot of a set.
-#[derive(Clone, Copy)]
+#[derive(Clone, Copy, Debug, PartialEq, Eq)]
 pub struct Owner {
     pub set: u8,
     pub slot: u8,
@@ -23,24 +23,21 @@ impl Owners {
             table: [None; 4096],
         }
     }
-}
 
-/// The owner of a page; none past the table's end.
-pub(crate) fn owner_at(table: &[Option<Owner>], page: usize) -> Option<Owner>
-    ensures { result ≡ slice_index_or table.now page None }
-{
-    if page < table.len() {
-        table[page]
-    } else {
-        None
+    /// The owner of a page; none past the table's end.
+    pub(crate) fn owner_at(&self, page: usize) -> Option<Owner>
+        ensures { result ≡ slice_index_or self.now.table page None }
+    {
+        *self.table.get(page)?
     }
-}
 
-/// Sets the owner of a page; past the table's end nothing.
-pub(crate) fn mark(table: &mut [Option<Owner>], page: usize, owner: Option<Owner>)
-    ensures { table.new ≡ slice_set table.old page owner }
-{
-    if page < table.len() {
-        table[page] = owner;
+    /// Sets the owner of a page; past the table's end nothing.
+    // By index: what is written through `get_mut` of an array is not known to a proof.
+    pub(crate) fn mark(&mut self, page: usize, owner: Option<Owner>)
+        ensures { self.new.table ≡ slice_set self.old.table page owner }
+    {
+        if page < self.table.len() {
+            self.table[page] = owner;
+        }
     }
 }

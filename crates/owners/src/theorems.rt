@@ -2,8 +2,6 @@
 ghost use Rattle.owners.specs.Taken.{PageAnswers};
 
 /// The law of taken pages leaves one answer, that of the claim.
-pub fn taken_pages_are_one() -> u8
+pub fn taken_pages_are_one()
     ensures { PageAnswers }
-{
-    0
-}
+{}
