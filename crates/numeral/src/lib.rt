@@ -9,12 +9,7 @@ ghost use Rattle.numeral.specs.Numbers.{digit, digit_below, extended, numeral, n
 pub fn digit_of(byte: u8) -> Option<u8>
     ensures { result ≡ digit byte }
 {
-    match byte {
-        b'0'..=b'9' => Some(byte - b'0'),
-        b'a'..=b'f' => Some(byte - b'a' + 10),
-        b'A'..=b'F' => Some(byte - b'A' + 10),
-        _ => None,
-    }
+    char::from(byte).to_digit(16).map(|digit| digit as u8)
 }
 
 // The value of a digit of the base, if the byte is one.
