@@ -4,8 +4,7 @@ use Rattle.lexer.specs.declared.data.Data.{Data}
 use Rattle.lexer.specs.declared.data.Data.TheVariants.{Written, Generated}
 use Rattle.std.specs.List.{range_with_len}
 use Rattle.lexer.specs.Parts.{parted}
-use Rattle.lexer.specs.declared.parts.Stop.TheVariants.{Colon}
-use Rattle.numeral.specs.Numbers.{digit, all_digits, number}
+use Rattle.numeral.specs.Numbers.{digit_value, all_digits, number}
 
 -- byte k of a generated text
 abbrev pub generated : ℕ → ℕ → ℕ
@@ -13,7 +12,7 @@ generated start k = (start + k + 7 * (k / 256)) % 256
 
 -- byte i of a row of hexadecimal digits, two to a byte
 abbrev pub pair_at : List ℕ → ℕ → ℕ
-pair_at cs i = 16 * digit (slice_index cs (2 * i)) + digit (slice_index cs (2 * i + 1))
+pair_at cs i = 16 * digit_value (slice_index cs (2 * i)) + digit_value (slice_index cs (2 * i + 1))
 
 -- the bytes that hexadecimal digits say: an even number of them, and nothing else
 abbrev pub hexed : List ℕ → Option (List ℕ)
@@ -42,7 +41,7 @@ ruled (Some p) = ruled_by (number p.0) (number p.1)
 -- the bytes after hex:, else those of the rule after gen:
 abbrev rule_after : Option (List ℕ) → Option (List ℕ)
 rule_after None = None
-rule_after (Some rule) = ruled (parted Colon rule)
+rule_after (Some rule) = ruled (parted (λ c. c == 58) rule)
 
 abbrev hex_after : Option (List ℕ) → Option (List ℕ) → Option (List ℕ)
 hex_after (Some digits) rule = hexed digits

@@ -1,44 +1,33 @@
 -- How a text is cut into lines, words and parts of words.
-use Rattle.std.specs.Prelude.{ℕ, ◌+◌, Bool, cond, not, ◌||◌, List, [], ◌∷◌, length, take, drop, Some, None, Option, ◌==◌, nat_le}
-use Rattle.lexer.specs.declared.parts.Stop.{Stop}
-use Rattle.lexer.specs.declared.parts.Stop.TheVariants.{Colon, Equals, Hash, LineEnd, Blank, Word}
+use Rattle.std.specs.Prelude.{◌≡◌, ℕ, ◌+◌, Bool, cond, not, ◌||◌, List, take, drop, Some, None, Option, ◌==◌, option_map, position}
+use Rattle.std.specs.List.{position_or_len, before_first}
 
 -- words are parted by blanks, tabs and carriage returns
 abbrev pub blank : ℕ → Bool
 blank c = c == 32 || (c == 9 || c == 13)
 
--- the byte at which a part ends
-abbrev pub stops : Stop → ℕ → Bool
-stops Colon c = c == 58
-stops Equals c = c == 61
-stops Hash c = c == 35
-stops LineEnd c = c == 10
-stops Blank c = blank c
-stops Word c = not (blank c)
+-- a call of a closure at a byte answers what the test says
+abbrev pub Answers : (ℕ → Bool → Type 0) → (ℕ → Bool) → Type 0
+Answers post test = (c : ℕ) (b : Bool) → post c b → b ≡ test c
 
--- how many bytes come before the first at which a part ends
-abbrev pub reach : Stop → List ℕ → ℕ
-reach s [] = 0
-reach s (c ∷ cs) = cond (stops s c) 0 (1 + reach s cs)
-
--- what comes before the first such byte, and what after it, if there is one
-abbrev pub parted : Stop → List ℕ → Option (List ℕ × List ℕ)
-parted s w = cond (nat_le (length w) (reach s w)) None (Some (take (reach s w) w, drop (reach s w + 1) w))
+-- what comes before the first byte that passes a test, and what after it, if there is one
+abbrev pub parted : (ℕ → Bool) → List ℕ → Option (List ℕ × List ℕ)
+parted test w = option_map (λ k. (take k w, drop (k + 1) w)) (position test w)
 
 -- a line without its comment
 abbrev pub uncommented : List ℕ → List ℕ
-uncommented line = take (reach Hash line) line
+uncommented line = before_first (λ c. c == 35) line
 
 -- the text from its first word on
 abbrev pub from_word : List ℕ → List ℕ
-from_word text = drop (reach Word text) text
+from_word text = drop (position_or_len (λ c. not (blank c)) text) text
 
 -- the first word of a text that begins with it, and what follows it
 abbrev word_here : List ℕ → Option (List ℕ)
-word_here text = cond (reach Blank text == 0) None (Some (take (reach Blank text) text))
+word_here text = cond (position_or_len blank text == 0) None (Some (before_first blank text))
 
 abbrev pub first_word : List ℕ → Option (List ℕ)
 first_word text = word_here (from_word text)
 
 abbrev pub after_word : List ℕ → List ℕ
-after_word text = drop (reach Blank (from_word text)) (from_word text)
+after_word text = drop (position_or_len blank (from_word text)) (from_word text)

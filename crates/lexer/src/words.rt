@@ -1,19 +1,26 @@
 //! The words of a line, one after another.
-ghost use Rattle.std.specs.Prelude.{◌≡◌};
+ghost use Rattle.std.specs.Prelude.{◌≡◌, length};
+ghost use Rattle.std.specs.Iterator.{at_most};
 ghost use Rattle.std.specs.Option.{option_map};
-ghost use Rattle.lexer.specs.Parts.{uncommented, from_word, first_word, after_word};
+ghost use Rattle.lexer.specs.Parts.{blank, uncommented, first_word, after_word};
 
-use crate::parts::{Stop, cut_at};
+use crate::parts::cut_at;
+
+// Whether the byte parts words.
+fn is_blank(byte: u8) -> bool
+    ensures { result ≡ blank byte }
+{
+    matches!(byte, b' ' | b'\t' | b'\r')
+}
 
 // The line without its comment.
 pub(crate) fn cut_comment(line: &[u8]) -> &[u8]
     ensures { result.now ≡ uncommented line.now }
 {
-    let (text, _) = cut_at(line, Stop::Hash);
-    text
+    cut_at(line, |byte| byte == b'#').0
 }
 
-/// What is still to be read of a line.
+/// What is still to be read of a line, word by word.
 #[derive(Clone, Copy)]
 pub struct Words<'a> {
     rest: &'a [u8],
@@ -28,15 +35,19 @@ impl<'a> Words<'a> {
             rest: cut_comment(line),
         }
     }
+}
 
-    /// The next word, if there is one.
-    pub fn next_word(&mut self) -> Option<&'a [u8]>
-        ensures answer { option_map (λ s. s.now) result ≡ first_word self.old.rest.now }
-        ensures after { self.new.rest.now ≡ after_word self.old.rest.now }
-    {
-        let (_, text) = cut_at(self.rest, Stop::Word);
-        let (word, rest) = cut_at(text, Stop::Blank);
+impl<'a> Iterator for Words<'a> {
+    type Item = &'a [u8];
+
+    ghost next_gives = { λ s word t. (option_map (λ w. w.now) word ≡ first_word s.rest.now) × (t.rest.now ≡ after_word s.rest.now) };
+
+    ghost remaining = { λ s. at_most (length s.rest.now) };
+
+    fn next(&mut self) -> Option<&'a [u8]> {
+        let (_, text) = cut_at(self.rest, |byte| !is_blank(byte));
+        let (word, rest) = cut_at(text, is_blank);
         self.rest = rest;
-        if word.is_empty() { None } else { Some(word) }
+        (!word.is_empty()).then_some(word)
     }
 }

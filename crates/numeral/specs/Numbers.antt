@@ -1,23 +1,40 @@
 -- What a written number says.
-use Rattle.std.specs.Prelude.{ℕ, ◌+◌, ◌-◌, ◌*◌, ◌^◌, Bool, true, cond, ◌&&◌, List, [], ◌∷◌, length, drop, Some, None, Option, ◌==◌, nat_le, nat_lt, slice_index}
+use Rattle.std.specs.Prelude.{ℕ, ◌+◌, ◌-◌, ◌*◌, ◌^◌, Bool, cond, ◌&&◌, List, length, drop, Some, None, Option, ◌==◌, nat_le, nat_lt, slice_index, fold, unwrap_or}
+use Rattle.std.specs.Option.{is_some, option_and_then}
+use Rattle.std.specs.List.{list_all}
 
 -- c lies from a to b
 abbrev within : ℕ → ℕ → ℕ → Bool
 within a b c = nat_le a c && nat_le c b
 
--- the value of a digit, of either case; 255 for what is none
-abbrev pub digit : ℕ → ℕ
-digit c = cond (within 48 57 c) (c - 48) (cond (within 97 102 c) (c - 87) (cond (within 65 70 c) (c - 55) 255))
+-- the value of a digit of either case, if the byte is one
+abbrev pub digit : ℕ → Option ℕ
+digit c = cond (within 48 57 c) (Some (c - 48)) (cond (within 97 102 c) (Some (c - 87)) (cond (within 65 70 c) (Some (c - 55)) None))
+
+-- the value of a digit, 0 for a byte that is none
+abbrev pub digit_value : ℕ → ℕ
+digit_value c = unwrap_or (digit c) 0
+
+-- a digit's value, if it is one of the base
+abbrev pub digit_below : ℕ → Option ℕ → Option ℕ
+digit_below base None = None
+digit_below base (Some d) = cond (nat_lt d base) (Some d) None
+
+-- the byte is a digit of the base
+abbrev pub is_digit : ℕ → ℕ → Bool
+is_digit base c = is_some (digit_below base (digit c))
 
 -- each byte is a digit of the base
 abbrev pub all_digits : ℕ → List ℕ → Bool
-all_digits base [] = true
-all_digits base (c ∷ cs) = nat_lt (digit c) base && all_digits base cs
+all_digits base cs = list_all (is_digit base) cs
 
 -- the value of digits that follow a value
 abbrev pub value : ℕ → ℕ → List ℕ → ℕ
-value base before [] = before
-value base before (c ∷ cs) = value base (before * base + digit c) cs
+value base before cs = fold (λ v c. v * base + digit_value c) before cs
+
+-- a value with one more digit, if the byte is one of the base and the result is below 2^64
+abbrev pub extended : ℕ → ℕ → ℕ → Option ℕ
+extended base v c = option_and_then (λ d. cond (nat_lt (v * base + d) (2 ^ 64)) (Some (v * base + d)) None) (digit_below base (digit c))
 
 -- at least one byte, each a digit of the base, and together below 2^64
 abbrev pub numeral : ℕ → List ℕ → Option ℕ

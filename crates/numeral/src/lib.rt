@@ -1,20 +1,30 @@
 //! Numbers as a scenario writes them: decimal digits, or hexadecimal ones after 0x.
 #![tactic(auto)]
 
-ghost use Rattle.std.specs.Prelude.{◌≡◌, ◌^◌, ◌≤◌};
-ghost use Rattle.std.specs.Option.{option_map};
-ghost use Rattle.numeral.specs.Numbers.{digit, numeral, hex_part, number, narrow};
+ghost use Rattle.std.specs.Prelude.{◌≡◌, ◌^◌, ◌≤◌, None, MatchOption};
+ghost use Rattle.std.specs.Result.{result_ok};
+ghost use Rattle.numeral.specs.Numbers.{digit, digit_below, extended, numeral, number, narrow};
 
-/// The value of a digit of either case, 255 for a byte that is none.
-pub fn digit_of(byte: u8) -> u8
+/// The value of a digit of either case, if the byte is one.
+pub fn digit_of(byte: u8) -> Option<u8>
     ensures { result ≡ digit byte }
 {
-    match byte {
-        b'0'..=b'9' => byte - b'0',
-        b'a'..=b'f' => byte - b'a' + 10,
-        b'A'..=b'F' => byte - b'A' + 10,
-        _ => 255,
-    }
+    char::from(byte).to_digit(16).map(|digit| digit as u8)
+}
+
+// The value of a digit of the base, if the byte is one.
+fn digit_in(base: u64, byte: u8) -> Option<u64>
+    ensures { result ≡ digit_below base (digit byte) }
+{
+    digit_of(byte).map(u64::from).filter(|digit| *digit < base)
+}
+
+// A value with one more digit of the base, if the byte is one and the result is below 2^64.
+fn with_digit(base: u64, value: u64, byte: u8) -> Option<u64>
+    ensures { result ≡ extended base value byte }
+{
+    let digit = digit_in(base, byte)?;
+    value.checked_mul(base)?.checked_add(digit)
 }
 
 // The number that digits of a base say, if they say one below 2^64.
@@ -25,70 +35,47 @@ fn numeral_of(base: u64, digits: &[u8]) -> Option<u64>
     if digits.is_empty() {
         return None;
     }
-    let mut value: u64 = 0;
-    for byte in digits {
-        let digit = u64::from(digit_of(*byte));
-        if digit >= base {
-            return None;
-        }
-        let Some(shifted) = value.checked_mul(base) else {
-            return None;
-        };
-        let Some(more) = shifted.checked_add(digit) else {
-            return None;
-        };
-        value = more;
-    }
-    Some(value)
+    digits
+        .iter()
+        .try_fold(0, |value, byte| with_digit(base, value, *byte))
 }
 
-// What follows 0x, if the word begins so.
-fn after_prefix(word: &[u8]) -> Option<&[u8]>
-    ensures { option_map (λ s. s.now) result ≡ hex_part word.now }
-{
-    if word.len() >= 2 && word[0] == b'0' && word[1] == b'x' {
-        Some(&word[2..])
-    } else {
-        None
-    }
-}
-
-/// The number that a word says, if it says one below 2^64.
+/// The number that a word says, if it says one below 2^64: hexadecimal after 0x, else decimal.
 pub fn read_u64(word: &[u8]) -> Option<u64>
     ensures { result ≡ number word.now }
 {
-    match after_prefix(word) {
+    match word.strip_prefix(b"0x") {
         Some(digits) => numeral_of(16, digits),
         None => numeral_of(10, word),
     }
+}
+
+// The number that a word says, if the type holds it.
+fn read<T: TryFrom<u64>>(word: &[u8]) -> Option<T>
+where
+    T::Error: Drop,
+    ensures { MatchOption (number word.now) (result ≡ None) (λ n. (r : _) × T.try_from_gives n r × (result ≡ result_ok r)) }
+{
+    T::try_from(read_u64(word)?).ok()
 }
 
 /// The number that a word says, if it is below 2^32.
 pub fn read_u32(word: &[u8]) -> Option<u32>
     ensures { result ≡ narrow (2 ^ 32) (number word.now) }
 {
-    match read_u64(word) {
-        Some(n) if n < 4_294_967_296 => Some(n as u32),
-        _ => None,
-    }
+    read::<u32>(word)
 }
 
 /// The number that a word says, if it is below 2^16.
 pub fn read_u16(word: &[u8]) -> Option<u16>
     ensures { result ≡ narrow (2 ^ 16) (number word.now) }
 {
-    match read_u64(word) {
-        Some(n) if n < 65_536 => Some(n as u16),
-        _ => None,
-    }
+    read::<u16>(word)
 }
 
 /// The number that a word says, if it is below 2^8.
 pub fn read_u8(word: &[u8]) -> Option<u8>
     ensures { result ≡ narrow (2 ^ 8) (number word.now) }
 {
-    match read_u64(word) {
-        Some(n) if n < 256 => Some(n as u8),
-        _ => None,
-    }
+    read::<u8>(word)
 }

@@ -4,56 +4,61 @@ ghost use Rattle.notices.specs.Boards.{board};
 ghost use Rattle.player.specs.Carrying.{carried};
 
 use crate::glance::{Glance, Hex};
+use devices::Sink;
 use link::{Direction, Link};
 use notices::Notices;
 use pile::{Pile, sink_at};
 use refusal::Refusal;
 use script::{Command, Line};
 use std::alloc::{AllocError, Global};
+use std::fmt;
 
-// The block that a call answered, or its refusal.
-fn block_answer(
-    heap: Global,
-    label: &str,
-    res: Result<usize, Refusal>,
-) -> Result<String, AllocError> {
-    match res {
-        Ok(block) => format!(in heap; "{label}: block {block}"),
-        Err(refusal) => format!(in heap; "{label}: {refusal}"),
-    }
+// What an answer says after its label.
+#[derive(Clone, Copy)]
+enum Said<'a> {
+    // A device's pipe, and its direction if there is one.
+    Device(u8, Option<Direction>),
+    // What a sink took in its term.
+    Taken(Option<&'a Sink>),
+    // Notices are on.
+    On,
+    // The block that a call answered, or its refusal.
+    Block(Result<usize, Refusal>),
+    // The bytes of a block, if there is one.
+    Bytes(Option<&'a [u8]>),
+    // Whether notices are on, and the overflow mark.
+    Overflow { on: bool, marked: bool },
 }
 
-// Whether notices are on, and the overflow mark.
-fn overflow_answer(heap: Global, label: &str, notices: &Notices) -> Result<String, AllocError> {
-    let on = if notices.is_on() { "on" } else { "off" };
-    let mark = if notices.overflowed() {
-        "overflow marked"
-    } else {
-        "no overflow"
-    };
-    format!(in heap; "{label}: notices {on}, {mark}")
-}
-
-// A device's pipe and its direction.
-fn device_answer(heap: Global, label: &str, pile: &Pile, pipe: u8) -> Result<String, AllocError> {
-    match pile.describe(pipe) {
-        Some(Direction::Inward) => format!(in heap; "{label}: pipe {pipe}, inward"),
-        Some(Direction::Outward) => format!(in heap; "{label}: pipe {pipe}, outward"),
-        None => format!(in heap; "{label}: no pipe"),
-    }
-}
-
-// What a sink took in its term.
-fn taken_answer(heap: Global, label: &str, pile: &Pile, pipe: u8) -> Result<String, AllocError> {
-    match sink_at(pile, pipe) {
-        Some(sink) => {
-            let packets = sink.taken_lengths().len();
-            let glance = Glance {
-                bytes: sink.taken_bytes(),
-            };
-            format!(in heap; "{label}: {packets} packets, {glance}")
+impl fmt::Display for Said<'_> {
+    fn fmt<W: fmt::Write>(&self, f: &mut fmt::Formatter<W>) -> fmt::Result {
+        match self {
+            Said::Device(pipe, Some(Direction::Inward)) => write!(f, "pipe {pipe}, inward"),
+            Said::Device(pipe, Some(Direction::Outward)) => write!(f, "pipe {pipe}, outward"),
+            Said::Device(_, None) => write!(f, "no pipe"),
+            Said::Taken(Some(sink)) => {
+                let packets = sink.taken_lengths().len();
+                let glance = Glance {
+                    bytes: sink.taken_bytes(),
+                };
+                write!(f, "{packets} packets, {glance}")
+            }
+            Said::Taken(None) => write!(f, "no sink"),
+            Said::On => write!(f, "on"),
+            Said::Block(Ok(block)) => write!(f, "block {block}"),
+            Said::Block(Err(refusal)) => write!(f, "{refusal}"),
+            Said::Bytes(Some(bytes)) => Hex { bytes }.fmt(f),
+            Said::Bytes(None) => Ok(()),
+            Said::Overflow { on, marked } => {
+                let on = if *on { "on" } else { "off" };
+                let mark = if *marked {
+                    "overflow marked"
+                } else {
+                    "no overflow"
+                };
+                write!(f, "notices {on}, {mark}")
+            }
         }
-        None => format!(in heap; "{label}: no sink"),
     }
 }
 
@@ -67,31 +72,24 @@ pub fn carry_out(
     ensures after { OnOk result (board notices.new ≡ carried (board notices.old) line.command) }
     ensures lent { notices.new.buffer.ghost_name ≡ notices.old.buffer.ghost_name }
 {
-    let Line {
-        number: _,
-        label,
-        command,
-    } = line;
-    let label = label.as_str();
-    match command {
-        Command::Device(pipe) => device_answer(heap, label, pile, pipe),
-        Command::Taken(pipe) => taken_answer(heap, label, pile, pipe),
+    let label = line.label;
+    let answer = |said: Said<'_>| format!(in heap; "{label}: {said}");
+    match line.command {
+        Command::Device(pipe) => answer(Said::Device(pipe, pile.describe(pipe))),
+        Command::Taken(pipe) => answer(Said::Taken(sink_at(pile, pipe))),
         Command::NoticesOn => {
             notices.switch_on();
-            format!(in heap; "{label}: on")
+            answer(Said::On)
         }
         Command::Notice(source, key, data) => {
             let bytes = data.into_bytes(heap)?;
-            block_answer(heap, label, notices.arrive(source, key, bytes.as_slice()))
+            answer(Said::Block(notices.arrive(source, key, bytes.as_slice())))
         }
-        Command::Take => block_answer(heap, label, notices.take()),
-        Command::Block(number) => match notices.block(number) {
-            Some(bytes) => {
-                let hex = Hex { bytes };
-                format!(in heap; "{label}: {hex}")
-            }
-            None => format!(in heap; "{label}: "),
-        },
-        Command::Overflow => overflow_answer(heap, label, notices),
+        Command::Take => answer(Said::Block(notices.take())),
+        Command::Block(number) => answer(Said::Bytes(notices.block(number))),
+        Command::Overflow => answer(Said::Overflow {
+            on: notices.is_on(),
+            marked: notices.overflowed(),
+        }),
     }
 }

@@ -12,14 +12,11 @@ use std::alloc::{AllocError, Global};
 fn build_function(heap: Global, kind: Kind) -> Result<Function, AllocError>
     ensures { IfOk result (λ f. Built kind f) }
 {
-    match kind {
-        Kind::Reader(data, lengths) => Ok(Choice::First(Reader::new(
-            data.into_bytes(heap)?,
-            lengths,
-        ))),
-        Kind::Plain(space, places) => Ok(Choice::Second(Sink::plain(heap, space, places)?)),
-        Kind::Gathering(space, places) => Ok(Choice::Second(Sink::gathering(heap, space, places)?)),
-    }
+    Ok(match kind {
+        Kind::Reader(data, lengths) => Choice::First(Reader::new(data.into_bytes(heap)?, lengths)),
+        Kind::Plain(space, places) => Choice::Second(Sink::plain(heap, space, places)?),
+        Kind::Gathering(space, places) => Choice::Second(Sink::gathering(heap, space, places)?),
+    })
 }
 
 /// A device under its layers, or none.
@@ -35,9 +32,6 @@ pub fn build_device(heap: Global, device: Option<Device>) -> Result<Covered, All
 /// The devices of a scenario, in the order of their pipes; those past the fourth are left out.
 pub fn build_pile(heap: Global, devices: Vec<Device>) -> Result<Pile, AllocError> {
     let mut rest = devices.into_iter();
-    let first = build_device(heap, rest.next())?;
-    let second = build_device(heap, rest.next())?;
-    let third = build_device(heap, rest.next())?;
-    let fourth = build_device(heap, rest.next())?;
-    Ok(stack(first, second, third, fourth))
+    let mut next = || build_device(heap, rest.next());
+    Ok(stack(next()?, next()?, next()?, next()?))
 }

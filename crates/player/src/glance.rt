@@ -8,11 +8,9 @@ use std::fmt;
 pub fn fnv(bytes: &[u8]) -> u64
     ensures { result ≡ fnv_of bytes.now }
 {
-    let mut hash: u64 = 0xcbf2_9ce4_8422_2325;
-    for byte in bytes {
-        hash = (hash ^ u64::from(*byte)).wrapping_mul(0x100_0000_01b3);
-    }
-    hash
+    bytes.iter().fold(0xcbf2_9ce4_8422_2325, |hash, byte| {
+        (hash ^ u64::from(*byte)).wrapping_mul(0x100_0000_01b3)
+    })
 }
 
 /// Bytes in hexadecimal, two digits to a byte.

@@ -1,7 +1,7 @@
 //! The program `scenario`: reads scenarios from the files that its arguments name, or from standard input, and plays each.
 #![tactic(auto)]
 
-use anyhow::anyhow;
+use anyhow::ensure;
 use notices::Notices;
 use pile::Pile;
 use player::{build_pile, carry_out};
@@ -34,9 +34,7 @@ fn play(rt: &HostRuntime, name: &str, text: &[u8]) -> io::Result<bool> {
     let Script { devices, lines } = match read_script(heap, text) {
         Ok(script) => script,
         Err(fault) => {
-            let line = fault.line;
-            let wrong = fault.wrong;
-            eprintln!(rt; "{name}:{line}: {wrong}")?;
+            eprintln!(rt; "{name}:{fault}")?;
             return Ok(false);
         }
     };
@@ -73,18 +71,13 @@ fn play_file(rt: &HostRuntime, path: &str) -> io::Result<bool> {
 }
 
 fn main(rt: HostRuntime) -> anyhow::Result<()> {
-    let mut good = true;
-    let mut named = false;
-    for path in env::args(&rt)?.skip(1) {
-        named = true;
-        good = play_file(&rt, path.as_str())? && good;
-    }
-    if !named {
-        good = play_input(&rt)?;
-    }
-    if good {
-        Ok(())
-    } else {
-        Err(anyhow!("a scenario could not be read"))
-    }
+    let mut paths = env::args(&rt)?.skip(1).peekable();
+    let good = match paths.peek() {
+        Some(_) => paths.try_fold(true, |good, path| {
+            play_file(&rt, path.as_str()).map(|played| played && good)
+        })?,
+        None => play_input(&rt)?,
+    };
+    ensure!(good, "a scenario could not be read");
+    Ok(())
 }

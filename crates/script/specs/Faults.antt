@@ -1,5 +1,6 @@
 -- What people read of a line that cannot be read.
-use Rattle.std.specs.Prelude.{ℕ, List, codes}
+use Rattle.std.specs.Prelude.{ℕ, List, ◌++◌, codes, decimal}
+use Rattle.script.specs.declared.fault.Fault.{Fault}
 use Rattle.script.specs.declared.fault.Wrong.{Wrong}
 use Rattle.script.specs.declared.fault.Wrong.TheVariants.{UnknownWord, MissingWord, ExtraWord, BadNumber, BadData, NoSuchBlock, FifthDevice, MisplacedOption, NotASink, NoMemory}
 
@@ -14,3 +15,7 @@ texted FifthDevice = codes "a fifth device"
 texted MisplacedOption = codes "an option given twice, or before the last plain word"
 texted NotASink = codes "no sink at that pipe"
 texted NoMemory = codes "no memory to read it"
+
+-- the line's number, and what is wrong
+abbrev pub told : Fault → List ℕ
+told f = decimal f.line ++ (codes ": " ++ texted f.wrong)

@@ -1,6 +1,6 @@
 //! What can be wrong with a scenario's text.
 ghost use Rattle.std.specs.Prelude.{◌≡◌, Some};
-ghost use Rattle.script.specs.Faults.{texted};
+ghost use Rattle.script.specs.Faults.{texted, told};
 ghost use Rattle.script.specs.declared.fault.Wrong.TheVariants.{NoMemory};
 
 use std::alloc::{AllocError, AllocFailed};
@@ -64,6 +64,16 @@ impl fmt::Display for Wrong {
     fn fmt<W: fmt::Write>(&self, f: &mut fmt::Formatter<W>) -> fmt::Result {
         let words = self.words();
         write!(f, "{words}")
+    }
+}
+
+impl fmt::Display for Fault {
+    ghost output = { λ f. Some (told f) };
+
+    fn fmt<W: fmt::Write>(&self, f: &mut fmt::Formatter<W>) -> fmt::Result {
+        let line = self.line;
+        let wrong = self.wrong;
+        write!(f, "{line}: {wrong}")
     }
 }
 

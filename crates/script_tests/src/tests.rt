@@ -1,7 +1,7 @@
 //! Texts that cannot be read are told by their line; others are answered line by line.
 use notices::Notices;
 use player::{build_pile, carry_out};
-use script::{Wrong, read_script};
+use script::{Fault, Wrong, read_script};
 use std::test::Fail;
 
 // Texts that cannot be read: the line that is at fault, and what is wrong with it.
@@ -40,13 +40,8 @@ const BAD: [(&str, usize, Wrong); 25] = [
 #[test]
 fn faults_by_line(rt: HostRuntime) -> Result<(), Fail> {
     for (text, line, wrong) in BAD {
-        match read_script(rt.alloc(), text.as_bytes()) {
-            Ok(_) => return Err(Fail::new("a text that cannot be read was read")),
-            Err(fault) => {
-                assert_eq!(rt; fault.line, line);
-                assert_eq!(rt; fault.wrong, wrong);
-            }
-        }
+        let read = read_script(rt.alloc(), text.as_bytes());
+        assert_eq!(rt; read.err(), Some(Fault { line, wrong }));
     }
     Ok(())
 }
@@ -77,24 +72,16 @@ const PLAYED: [(&str, &str); 9] = [
 fn answers_line_by_line(rt: HostRuntime) -> Result<(), Fail> {
     let heap = rt.alloc();
     let mut buffer = vec![in heap; 0u8; 4096]?;
-    match Notices::new(buffer.as_mut_slice()) {
-        Ok(mut notices) => {
-            for (text, expected) in PLAYED {
-                match read_script(heap, text.as_bytes()) {
-                    Ok(script) => {
-                        let pile = build_pile(heap, script.devices)?;
-                        for line in script.lines {
-                            let answer = carry_out(heap, &mut notices, &pile, line)?;
-                            if answer.as_str() != expected {
-                                return Err(Fail::new(expected));
-                            }
-                        }
-                    }
-                    Err(_) => return Err(Fail::new(text)),
-                }
-            }
-            Ok(())
+    let mut notices = Notices::new(buffer.as_mut_slice()).map_err(|_| Fail::new(
+        "4,096 bytes are refused",
+    ))?;
+    for (text, expected) in PLAYED {
+        let script = read_script(heap, text.as_bytes()).map_err(|_| Fail::new(text))?;
+        let pile = build_pile(heap, script.devices)?;
+        for line in script.lines {
+            let answer = carry_out(heap, &mut notices, &pile, line)?;
+            assert_eq!(rt; answer.as_str(), expected);
         }
-        Err(_) => Err(Fail::new("4,096 bytes are refused")),
     }
+    Ok(())
 }

@@ -1,17 +1,18 @@
--- The two parts of the word.
-use Rattle.std.proofs.Common.{◌≡◌, ◌+◌, ◌-◌, ◌<◌, leb, length, take, drop, Some, None, sym, ap, ◌∙◌, arith}
+-- The two parts at the first byte that passes.
+use Rattle.std.proofs.Common.{◌+◌, take, drop, Some, option_map, sym, ap, ◌∙◌, rules, tests}
+use Rattle.std.proofs.lemmas.Iterator.{YieldsList-from_slice}
+use Rattle.std.proofs.lemmas.Iterator.Search.{position_from_yields_List}
 use Rattle.std.proofs.lemmas.List.{take_rest}
-use Rattle.std.proofs.lemmas.Bool.{cond-false, lt-leb}
-use Rattle.lexer.specs.Parts.{reach}
 use Rattle.lexer.proofs.parts.part_at.Goals as goal
 
-pub returns : goal.returns
-returns c =
+pub returns-in_err-at : goal.returns-in_err-at
+returns-in_err-at g c = λ test k.
     let w = c.args.text.now in
-    let k = c.span-at.result in
-    let e : c.span-at.result ≡ reach c.args.stop c.args.text.now = c.span-at.ensures.value in
-    let n : c.span-at.result - 0 ≡ reach c.args.stop c.args.text.now = omega arith in
-    let lt : reach c.args.stop c.args.text.now < length c.args.text.now = omega arith in
-    let front = ap (λ i. take i w) n in
-    let back = take_rest w (k + 1) ∙ ap (λ i. drop (i + 1) w) e in
-    (cc) ∙ sym (cond-false (leb (length w) (reach c.args.stop w)) None (Some (take (reach c.args.stop w) w, drop (reach c.args.stop w + 1) w)) (lt-leb (length w) (reach c.args.stop w) lt))
+    let p = position_from_yields_List test _ _ c.position.result c.position.ensures.ran (YieldsList-from_slice w cc) (λ x b q h. search (rules, tests, k)) in
+    ap (option_map (λ p. (p.0.now, p.1.now))) c.from_residual.ensures ∙ ap (option_map (λ n. (take n w, drop (n + 1) w))) (sym c.in_err-at.was ∙ p)
+
+pub returns : goal.returns
+returns g c = λ test k.
+    let w = c.args.text.now in
+    let p = position_from_yields_List test _ _ c.position.result c.position.ensures.ran (YieldsList-from_slice w cc) (λ x b q h. search (rules, tests, k)) in
+    ap (λ z. Some (take c.in_ok-at.at w, z)) (take_rest w (c.in_ok-at.at + 1)) ∙ ap (option_map (λ n. (take n w, drop (n + 1) w))) (sym c.in_ok-at.was ∙ p)

@@ -1,0 +1,2 @@
+-- The root of the lemmas on the language.
+pub mod Hexed
