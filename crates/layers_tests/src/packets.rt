@@ -1,6 +1,6 @@
 //! Numbers of a term, room for a packet, and the lamp's vector, at their bounds.
 use example_link::Lamp;
-use link::{Collected, Link, Packet, Window};
+use link::{Collected, Link, Packet, TooLong, Window};
 
 fn sound(packet: u16, burst: u8, range: u8) -> bool {
     let window = Window {
@@ -31,13 +31,13 @@ fn numbers_of_a_term(rt: HostRuntime) {
 fn room_for_a_packet(rt: HostRuntime) {
     let long = [7; 3585];
     let mut packet = Packet::new();
-    assert!(rt; packet.bytes().len() == 0);
-    assert!(rt; packet.fill(&long[1..]));
-    assert!(rt; packet.bytes().len() == 3584);
-    assert!(rt; !packet.fill(&long));
-    assert!(rt; packet.bytes().len() == 3584);
-    assert!(rt; packet.fill(&long[0..0]));
-    assert!(rt; packet.bytes().len() == 0);
+    assert_eq!(rt; packet.bytes().len(), 0);
+    assert_eq!(rt; packet.fill(&long[1..]), Ok(()));
+    assert_eq!(rt; packet.bytes().len(), 3584);
+    assert_eq!(rt; packet.fill(&long), Err(TooLong));
+    assert_eq!(rt; packet.bytes().len(), 3584);
+    assert_eq!(rt; packet.fill(&[]), Ok(()));
+    assert_eq!(rt; packet.bytes().len(), 0);
 }
 
 #[test]

@@ -1,4 +1,4 @@
-//! Loss, busy and joint: which calls take a bit, and which pass.
+//! Loss, busy, joint, and a link that may be lacking: which calls take a bit, and which pass.
 use example_link::Lamp;
 use layers::{Busy, Joint, Loss};
 use link::{Collected, Direction, Fetched, Link, Packet, PollAnswer, Window};
@@ -109,4 +109,27 @@ fn joint_passes_nothing_down_for_absent_pipes(rt: HostRuntime) {
     assert_eq!(rt; link.poll(1, 1), PollAnswer::Stall);
     assert_eq!(rt; link.first().position(), 0);
     assert_eq!(rt; link.second().position(), 1);
+}
+
+#[test]
+fn a_lacking_link_has_no_pipe(rt: HostRuntime) {
+    let mut into = Packet::new();
+    let mut link: Option<Lamp> = None;
+    link.restart(0, numbers());
+    link.send(0, 0, &[1]);
+    assert_eq!(rt; link.describe(0), None);
+    assert_eq!(rt; link.poll(0, 1), PollAnswer::Stall);
+    assert_eq!(rt; link.fetch(0, 0, &mut into), Fetched::Lost);
+    assert_eq!(rt; link.collect(0), Collected::Stall);
+}
+
+#[test]
+fn a_link_that_is_there_gets_every_call(rt: HostRuntime) {
+    let mut link = Some(Loss::new(Lamp::new(), 0b1000));
+    link.restart(0, numbers());
+    assert_eq!(rt; link.describe(0), Some(Direction::Outward));
+    link.send(0, 0, &[9]);
+    assert_eq!(rt; link.collect(0), Collected::Vector(0x1E));
+    assert_eq!(rt; link.poll(0, 1), PollAnswer::Stall);
+    assert_eq!(rt; link.poll(0, 1), PollAnswer::Silence);
 }

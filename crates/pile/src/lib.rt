@@ -11,7 +11,7 @@ use devices::{Reader, Sink};
 use layers::{Busy, Joint, Loss};
 
 /// A shipped device, or none.
-pub type Function = Choice<Reader, Sink>;
+pub type Function = Option<Choice<Reader, Sink>>;
 
 /// A device under its two layers.
 pub type Covered = Loss<Busy<Function>>;
@@ -43,9 +43,8 @@ fn sink_in(device: &Covered) -> Option<&Sink>
     ensures { option_map (λ s. s.now) result ≡ sink_in (covered device.now) }
 {
     match device.below().below() {
-        Choice::Second(sink) => Some(sink),
-        Choice::First(_) => None,
-        Choice::Neither => None,
+        Some(Choice::Second(sink)) => Some(sink),
+        Some(Choice::First(_)) | None => None,
     }
 }
 
