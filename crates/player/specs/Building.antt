@@ -5,31 +5,31 @@ use Rattle.script.specs.declared.command.Kind.{Kind}
 use Rattle.script.specs.declared.command.Kind.TheVariants as kinds
 use Rattle.script.specs.declared.command.Device.{Device}
 use Rattle.choice.specs.declared.place.Choice.{Choice}
-use Rattle.choice.specs.declared.place.Choice.TheVariants.{First, Second, Neither}
+use Rattle.choice.specs.declared.place.Choice.TheVariants.{First, Second}
 use Rattle.reader.specs.declared.reader.Reader.{Reader}
 use Rattle.reader.specs.Readers.{pipe_of, given}
 use Rattle.reader.specs.Reading.{messages}
 use Rattle.devices.specs.declared.sink.Sink.{Sink}
 use Rattle.devices.specs.Sinks.{sink_of}
 use Rattle.devices.specs.Sinking.{unused}
-use Rattle.layers.specs.declared.loss.Loss.{Loss}
-use Rattle.layers.specs.declared.busy.Busy.{Busy}
 use Rattle.layers.specs.Patterns.{Begins}
-use Rattle.pile.specs.Piles.{covered}
+use Rattle.pile.specs.Piles.{Covered, covered}
 
 -- a reader has its bytes cut into its messages; a sink is unused and has its space
 abbrev pub Built : Kind → Choice Reader Sink → Type 0
 Built (kinds.Reader bytes lengths) (First r) = pipe_of r ≡ given (messages (take (2 ^ 24) (bytes_of bytes)) (take (2 ^ 24) (vec_items lengths)))
 Built (kinds.Reader bytes lengths) (Second s) = ⊥
-Built (kinds.Reader bytes lengths) Neither = ⊥
 Built (kinds.Plain space places) (First r) = ⊥
 Built (kinds.Plain space places) (Second s) = sink_of s ≡ unused false space places
-Built (kinds.Plain space places) Neither = ⊥
 Built (kinds.Gathering space places) (First r) = ⊥
 Built (kinds.Gathering space places) (Second s) = sink_of s ≡ unused true space places
-Built (kinds.Gathering space places) Neither = ⊥
+
+-- a device is there, and built
+abbrev pub BuiltIn : Kind → Option (Choice Reader Sink) → Type 0
+BuiltIn k None = ⊥
+BuiltIn k (Some f) = Built k f
 
 -- a device under its layers, whose patterns begin at bit 0; none where none is described
-abbrev pub Stands : Option Device → Loss (Busy (Choice Reader Sink)) → Type 0
-Stands None d = covered d ≡ Neither
-Stands (Some v) d = Built v.kind (covered d) × Begins v.busy d.below.pattern × Begins v.loss d.pattern
+abbrev pub Stands : Option Device → Covered → Type 0
+Stands None d = covered d ≡ None
+Stands (Some v) d = BuiltIn v.kind (covered d) × Begins v.busy d.below.pattern × Begins v.loss d.pattern

@@ -6,7 +6,7 @@ ghost use Rattle.player.specs.Carrying.{carried};
 use crate::glance::{Glance, Hex};
 use devices::Sink;
 use link::{Direction, Link};
-use notices::Notices;
+use notices::{Notice, Notices};
 use pile::{Pile, sink_at};
 use refusal::Refusal;
 use script::{Command, Line};
@@ -33,8 +33,7 @@ enum Said<'a> {
 impl fmt::Display for Said<'_> {
     fn fmt<W: fmt::Write>(&self, f: &mut fmt::Formatter<W>) -> fmt::Result {
         match self {
-            Said::Device(pipe, Some(Direction::Inward)) => write!(f, "pipe {pipe}, inward"),
-            Said::Device(pipe, Some(Direction::Outward)) => write!(f, "pipe {pipe}, outward"),
+            Said::Device(pipe, Some(direction)) => write!(f, "pipe {pipe}, {direction}"),
             Said::Device(_, None) => write!(f, "no pipe"),
             Said::Taken(Some(sink)) => {
                 let packets = sink.taken_lengths().len();
@@ -83,7 +82,12 @@ pub fn carry_out(
         }
         Command::Notice(source, key, data) => {
             let bytes = data.into_bytes(heap)?;
-            answer(Said::Block(notices.arrive(source, key, bytes.as_slice())))
+            let notice = Notice {
+                source,
+                key,
+                bytes: bytes.as_slice(),
+            };
+            answer(Said::Block(notices.arrive(notice)))
         }
         Command::Take => answer(Said::Block(notices.take())),
         Command::Block(number) => answer(Said::Bytes(notices.block(number))),

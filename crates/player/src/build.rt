@@ -4,12 +4,12 @@ ghost use Rattle.player.specs.Building.{Built, Stands};
 
 use choice::Choice;
 use devices::{Reader, Sink};
-use pile::{Covered, Function, Pile, cover, stack};
+use pile::{Covered, Pile, cover, stack};
 use script::{Device, Kind};
 use std::alloc::{AllocError, Global};
 
 // A device as it was described.
-fn build_function(heap: Global, kind: Kind) -> Result<Function, AllocError>
+fn build_function(heap: Global, kind: Kind) -> Result<Choice<Reader, Sink>, AllocError>
     ensures { IfOk result (λ f. Built kind f) }
 {
     Ok(match kind {
@@ -24,8 +24,10 @@ pub fn build_device(heap: Global, device: Option<Device>) -> Result<Covered, All
     ensures { IfOk result (λ d. Stands device d) }
 {
     match device {
-        Some(Device { kind, busy, loss }) => Ok(cover(build_function(heap, kind)?, busy, loss)),
-        None => Ok(cover(Choice::Neither, 0, 0)),
+        Some(Device { kind, busy, loss }) => {
+            Ok(cover(Some(build_function(heap, kind)?), busy, loss))
+        }
+        None => Ok(cover(None, 0, 0)),
     }
 }
 
