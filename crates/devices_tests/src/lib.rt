@@ -9,3 +9,5 @@ mod reading;
 mod sinking;
 #[cfg(test)]
 mod space;
+#[cfg(test)]
+mod windows;

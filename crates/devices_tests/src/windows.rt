@@ -1,0 +1,16 @@
+//! Windows that the tests begin terms with.
+use link::Window;
+
+/// A window of these numbers.
+pub fn window(packet: u16, burst: u8, range: u8) -> Window {
+    Window {
+        packet,
+        burst,
+        range,
+    }
+}
+
+/// Packets of 4 bytes, a burst of 4, numbers 0 to 7.
+pub fn numbers() -> Window {
+    window(4, 4, 8)
+}
