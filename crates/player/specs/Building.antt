@@ -1,5 +1,5 @@
 -- The devices that a scenario describes, as they are built.
-use Rattle.std.specs.Prelude.{◌≡◌, ◌^◌, true, false, take, Some, None, vec_items, Option}
+use Rattle.std.specs.Prelude.{◌≡◌, ◌^◌, true, false, take, Some, None, vec_items, Option, List, slice_get}
 use Rattle.lexer.specs.Bytes.{bytes_of}
 use Rattle.script.specs.declared.command.Kind.{Kind}
 use Rattle.script.specs.declared.command.Kind.TheVariants as kinds
@@ -15,6 +15,7 @@ use Rattle.devices.specs.Sinking.{unused}
 use Rattle.layers.specs.declared.loss.Loss.{Loss}
 use Rattle.layers.specs.declared.busy.Busy.{Busy}
 use Rattle.layers.specs.Patterns.{Begins}
+use Rattle.joint.specs.declared.Joint.{Joint}
 use Rattle.pile.specs.Piles.{covered}
 
 -- a reader has its bytes cut into its messages; a sink is unused and has its space
@@ -29,7 +30,15 @@ Built (kinds.Gathering space places) (First r) = ⊥
 Built (kinds.Gathering space places) (Second s) = sink_of s ≡ unused true space places
 Built (kinds.Gathering space places) Neither = ⊥
 
+-- a device, or none, under its layers
+abbrev Covered : Type 0
+Covered = Loss (Busy (Choice Reader Sink))
+
 -- a device under its layers, whose patterns begin at bit 0; none where none is described
-abbrev pub Stands : Option Device → Loss (Busy (Choice Reader Sink)) → Type 0
+abbrev pub Stands : Option Device → Covered → Type 0
 Stands None d = covered d ≡ Neither
 Stands (Some v) d = Built v.kind (covered d) × Begins v.busy d.below.pattern × Begins v.loss d.pattern
+
+-- the devices of a list, in the order of their pipes; those past the fourth are left out
+abbrev pub StandInOrder : List Device → Joint (Joint Covered Covered) (Joint Covered Covered) → Type 0
+StandInOrder ds p = Stands (slice_get ds 0) p.first.first × Stands (slice_get ds 1) p.first.second × Stands (slice_get ds 2) p.second.first × Stands (slice_get ds 3) p.second.second
