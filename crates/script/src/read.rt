@@ -9,7 +9,7 @@ use std::iter::Peekable;
 
 // A word with an equals sign is an option: its name and its value.
 fn option_of(word: &[u8]) -> Option<(&[u8], &[u8])> {
-    part_at(word, |byte| byte == b'=')
+    part_at(word, b'=')
 }
 
 // A number of 64 bits; an option stands too early.
