@@ -41,7 +41,7 @@ ruled (Some p) = ruled_by (number p.0) (number p.1)
 -- the bytes after hex:, else those of the rule after gen:
 abbrev rule_after : Option (List ℕ) → Option (List ℕ)
 rule_after None = None
-rule_after (Some rule) = ruled (parted (λ c. c == 58) rule)
+rule_after (Some rule) = ruled (parted 58 rule)
 
 abbrev hex_after : Option (List ℕ) → Option (List ℕ) → Option (List ℕ)
 hex_after (Some digits) rule = hexed digits

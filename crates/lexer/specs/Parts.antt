@@ -10,9 +10,9 @@ blank c = c == 32 || (c == 9 || c == 13)
 abbrev pub Answers : (ℕ → Bool → Type 0) → (ℕ → Bool) → Type 0
 Answers post test = (c : ℕ) (b : Bool) → post c b → b ≡ test c
 
--- what comes before the first byte that passes a test, and what after it, if there is one
-abbrev pub parted : (ℕ → Bool) → List ℕ → Option (List ℕ × List ℕ)
-parted test w = option_map (λ k. (take k w, drop (k + 1) w)) (position test w)
+-- what comes before the first byte that is the mark, and what after it, if there is one
+abbrev pub parted : ℕ → List ℕ → Option (List ℕ × List ℕ)
+parted mark w = option_map (λ k. (take k w, drop (k + 1) w)) (position (λ c. c == mark) w)
 
 -- a line without its comment
 abbrev pub uncommented : List ℕ → List ℕ

@@ -1,5 +1,5 @@
 //! Bytes as a scenario writes them: hexadecimal digits, or a rule that makes them.
-ghost use Rattle.std.specs.Prelude.{◌≡◌, ◌==◌, map, IfOk};
+ghost use Rattle.std.specs.Prelude.{◌≡◌, map, IfOk};
 ghost use Rattle.std.specs.Option.{option_map};
 ghost use Rattle.std.specs.List.{range_with_len};
 ghost use Rattle.lexer.specs.Parts.{parted};
@@ -59,9 +59,9 @@ impl Data {
 
 // A generated text of at most 16,777,216 bytes: its count and its start.
 fn read_rule(rule: &[u8]) -> Option<Data>
-    ensures { option_map bytes_of result ≡ ruled (parted (λ c. c == 58) rule.now) }
+    ensures { option_map bytes_of result ≡ ruled (parted 58 rule.now) }
 {
-    let (count, start) = part_at(rule, |byte| byte == b':')?;
+    let (count, start) = part_at(rule, b':')?;
     let count = read_u64(count)?;
     let start = read_u64(start)?;
     (count <= 16_777_216).then_some(Data::Generated(count as usize, start))

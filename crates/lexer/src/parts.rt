@@ -1,19 +1,18 @@
-//! Cuts a text into parts, at the first byte that passes a test.
+//! Cuts a text into parts.
 ghost use Rattle.std.specs.Prelude.{◌≡◌, ℕ, Bool, take, drop};
 ghost use Rattle.std.specs.Option.{option_map};
 ghost use Rattle.std.specs.List.{position_or_len};
 ghost use Rattle.lexer.specs.Parts.{Answers, parted};
 
-/// What comes before the first byte at which a part ends, and what after it, if there is one.
-pub fn part_at<F: Fn(u8) -> bool>(text: &[u8], ends: F) -> Option<(&[u8], &[u8])>
-    requires { F.IsAlwaysCallable ends }
-    ensures { (test : ℕ → Bool) → Answers (F.post ends) test → option_map (λ p. (p.0.now, p.1.now)) result ≡ parted test text.now }
+/// What comes before the first byte that is the mark, and what after it, if there is one.
+pub fn part_at(text: &[u8], mark: u8) -> Option<(&[u8], &[u8])>
+    ensures { option_map (λ p. (p.0.now, p.1.now)) result ≡ parted mark text.now }
 {
-    let at = text.iter().position(|byte| ends(*byte))?;
+    let at = text.iter().position(|byte| *byte == mark)?;
     Some((&text[..at], &text[at + 1..]))
 }
 
-// What comes before the first byte at which a part ends, and all from there on.
+// What comes before the first byte for which `ends` answers true, and all from there on.
 pub(crate) fn cut_at<F: Fn(u8) -> bool>(text: &[u8], ends: F) -> (&[u8], &[u8])
     requires { F.IsAlwaysCallable ends }
     ensures { (test : ℕ → Bool) → Answers (F.post ends) test → (result.0.now ≡ take (position_or_len test text.now) text.now) × (result.1.now ≡ drop (position_or_len test text.now) text.now) }

@@ -1,5 +1,5 @@
 -- The devices that a scenario describes, as they are built.
-use Rattle.std.specs.Prelude.{◌≡◌, ◌^◌, true, false, take, Some, None, vec_items, Option}
+use Rattle.std.specs.Prelude.{◌≡◌, ◌^◌, true, false, take, Some, None, vec_items, Option, List, slice_get}
 use Rattle.lexer.specs.Bytes.{bytes_of}
 use Rattle.script.specs.declared.command.Kind.{Kind}
 use Rattle.script.specs.declared.command.Kind.TheVariants as kinds
@@ -13,7 +13,7 @@ use Rattle.devices.specs.declared.sink.Sink.{Sink}
 use Rattle.devices.specs.Sinks.{sink_of}
 use Rattle.devices.specs.Sinking.{unused}
 use Rattle.layers.specs.Patterns.{Begins}
-use Rattle.pile.specs.Piles.{Covered, covered}
+use Rattle.pile.specs.Piles.{Covered, Pile, covered}
 
 -- a reader has its bytes cut into its messages; a sink is unused and has its space
 abbrev pub Built : Kind → Choice Reader Sink → Type 0
@@ -33,3 +33,7 @@ BuiltIn k (Some f) = Built k f
 abbrev pub Stands : Option Device → Covered → Type 0
 Stands None d = covered d ≡ None
 Stands (Some v) d = BuiltIn v.kind (covered d) × Begins v.busy d.below.pattern × Begins v.loss d.pattern
+
+-- the devices of a list, in the order of their pipes; those past the fourth are left out
+abbrev pub StandInOrder : List Device → Pile → Type 0
+StandInOrder ds p = Stands (slice_get ds 0) p.first.first × Stands (slice_get ds 1) p.first.second × Stands (slice_get ds 2) p.second.first × Stands (slice_get ds 3) p.second.second

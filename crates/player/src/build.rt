@@ -1,6 +1,7 @@
 //! Builds the devices of a scenario, each under its layers, side by side.
-ghost use Rattle.std.specs.Prelude.{IfOk};
-ghost use Rattle.player.specs.Building.{Built, Stands};
+ghost use Rattle.std.specs.Prelude.{◌≡◌, IfOk, drop, slice_get};
+ghost use Rattle.std.specs.Vec.Iter.{into_iter_items};
+ghost use Rattle.player.specs.Building.{Built, Stands, StandInOrder};
 
 use choice::Choice;
 use devices::{Reader, Sink};
@@ -32,8 +33,13 @@ pub fn build_device(heap: Global, device: Option<Device>) -> Result<Covered, All
 }
 
 /// The devices of a scenario, in the order of their pipes; those past the fourth are left out.
-pub fn build_pile(heap: Global, devices: Vec<Device>) -> Result<Pile, AllocError> {
+pub fn build_pile(heap: Global, devices: Vec<Device>) -> Result<Pile, AllocError>
+    ensures { IfOk result (λ p. StandInOrder devices.items p) }
+{
     let mut rest = devices.into_iter();
-    let mut next = || build_device(heap, rest.next());
+    let mut next = || -> Result<Covered, AllocError>
+        ensures device { IfOk result (λ d. Stands (slice_get (into_iter_items rest.entry) 0) d) }
+        ensures left { into_iter_items rest.exit ≡ drop 1 (into_iter_items rest.entry) }
+    { build_device(heap, rest.next()) };
     Ok(stack(next()?, next()?, next()?, next()?))
 }

@@ -2,33 +2,13 @@
 #![tactic(auto)]
 
 use anyhow::ensure;
-use notices::Notices;
-use pile::Pile;
+use notices::{BUFFER, Notices};
 use player::{build_pile, carry_out};
-use script::{Line, Script, read_script};
-use std::alloc::Global;
+use script::{Script, read_script};
 use std::io::Read;
 use std::{env, fs, io};
 
-// Bytes of a notice buffer.
-const NOTICE_BYTES: usize = 4096;
-
-// Plays the lines of a scenario, one answer a line.
-fn play_lines(
-    rt: &HostRuntime,
-    heap: Global,
-    lines: Vec<Line>,
-    notices: &mut Notices,
-    pile: &Pile,
-) -> io::Result<()> {
-    for line in lines {
-        let answer = carry_out(heap, notices, pile, line)?;
-        println!(rt; "{answer}")?;
-    }
-    Ok(())
-}
-
-// Plays one scenario from a new start; false if its text cannot be read.
+// Plays one scenario from a new start, one answer a line; false if its text cannot be read.
 fn play(rt: &HostRuntime, name: &str, text: &[u8]) -> io::Result<bool> {
     let heap = rt.alloc();
     let Script { devices, lines } = match read_script(heap, text) {
@@ -39,17 +19,19 @@ fn play(rt: &HostRuntime, name: &str, text: &[u8]) -> io::Result<bool> {
         }
     };
     let pile = build_pile(heap, devices)?;
-    let mut buffer = vec![in heap; 0u8; NOTICE_BYTES]?;
-    match Notices::new(buffer.as_mut_slice()) {
-        Ok(mut notices) => {
-            play_lines(rt, heap, lines, &mut notices, &pile)?;
-            Ok(true)
-        }
+    let mut buffer = vec![in heap; 0u8; BUFFER]?;
+    let mut notices = match Notices::new(buffer.as_mut_slice()) {
+        Ok(notices) => notices,
         Err(refusal) => {
             eprintln!(rt; "{name}: {refusal}")?;
-            Ok(false)
+            return Ok(false);
         }
+    };
+    for line in lines {
+        let answer = carry_out(heap, &mut notices, &pile, line)?;
+        println!(rt; "{answer}")?;
     }
+    Ok(true)
 }
 
 // Plays standard input.

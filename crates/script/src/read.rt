@@ -1,4 +1,6 @@
 //! Reads a scenario: the whole text, line by line, before anything runs.
+ghost use Rattle.std.specs.Prelude.{◌≤◌, IfOk, vec_len};
+
 use crate::command::{Command, Device, Kind, Line, Script};
 use crate::fault::{Fault, Wrong};
 use lexer::{Data, Words, part_at, read_data, read_u8, read_u32, read_u64};
@@ -7,7 +9,7 @@ use std::iter::Peekable;
 
 // A word with an equals sign is an option: its name and its value.
 fn option_of(word: &[u8]) -> Option<(&[u8], &[u8])> {
-    part_at(word, |byte| byte == b'=')
+    part_at(word, b'=')
 }
 
 // A number of 64 bits; an option stands too early.
@@ -164,7 +166,9 @@ impl<'a> Rest<'a> {
     }
 
     // What the line asks for, by its first word.
-    fn command(&mut self, verb: &[u8], devices: &mut Vec<Device>) -> Result<Command, Wrong> {
+    fn command(&mut self, verb: &[u8], devices: &mut Vec<Device>) -> Result<Command, Wrong>
+        ensures { vec_len devices.old ≤ 4 → vec_len devices.new ≤ 4 }
+    {
         let command = match verb {
             b"reader" => add_device(devices, self.reader()?)?,
             b"plain" => add_device(devices, self.sink(Kind::Plain)?)?,
@@ -183,7 +187,9 @@ impl<'a> Rest<'a> {
 }
 
 // Adds a device: its pipe.
-fn add_device(devices: &mut Vec<Device>, device: Device) -> Result<Command, Wrong> {
+fn add_device(devices: &mut Vec<Device>, device: Device) -> Result<Command, Wrong>
+    ensures { vec_len devices.old ≤ 4 → vec_len devices.new ≤ 4 }
+{
     let pipe = devices.len();
     if pipe >= 4 {
         return Err(Wrong::FifthDevice);
@@ -209,7 +215,9 @@ fn label(heap: Global, command: &Command, words: Words<'_>) -> Result<String, Al
 }
 
 // Adds what a line asks for, if it has a word.
-fn read_line(heap: Global, script: &mut Script, number: usize, text: &[u8]) -> Result<(), Wrong> {
+fn read_line(heap: Global, script: &mut Script, number: usize, text: &[u8]) -> Result<(), Wrong>
+    ensures { vec_len script.old.devices ≤ 4 → vec_len script.new.devices ≤ 4 }
+{
     let words = Words::new(text);
     let mut rest = Rest {
         heap,
@@ -228,7 +236,9 @@ fn read_line(heap: Global, script: &mut Script, number: usize, text: &[u8]) -> R
 }
 
 /// The devices and commands of a whole text, in order, or the first line that cannot be read.
-pub fn read_script(heap: Global, text: &[u8]) -> Result<Script, Fault> {
+pub fn read_script(heap: Global, text: &[u8]) -> Result<Script, Fault>
+    ensures { IfOk result (λ script. vec_len script.devices ≤ 4) }
+{
     let mut script = Script {
         devices: Vec::new(heap),
         lines: Vec::new(heap),
