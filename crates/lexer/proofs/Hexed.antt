@@ -1,13 +1,13 @@
 -- Hexadecimal digits are read two by two.
 use Rattle.std.proofs.Common.{◌≡◌, ℕ, zero, suc, ◌+◌, ◌*◌, ◌/◌, ◌%◌, ◌==◌, ◌&&◌, Bool, true, false, cond, nat_lt, eqb, List, [], ◌∷◌, map, length, slice_index, Some, None, Option, Result, Ok, Err, option_map, is_some, unwrap_or, refl, sym, ap, ◌∙◌, arith}
 use Rattle.std.specs.List.{range_with_len}
-use Rattle.std.specs.Result.{result_ok}
+use Rattle.std.specs.Result.{MatchResult, result_ok}
 use Rattle.std.proofs.lemmas.Bool.Decides.{nat_tests}
 use Rattle.numeral.specs.Numbers.{digit, digit_below, digit_value, all_digits}
 use Rattle.lexer.specs.Bytes.{hexed, pair_at}
-use Rattle.hex.specs.Hex.{decode_of, decode_pairs, hex_digit_value, digit_or_error, ◌>>=◌}
+use Rattle.hex.specs.Hex.{decode_of, decode_sized, decode_pairs, hex_digit_value, digit_or_error, ◌>>=◌}
 use Rattle.hex.specs.declared.error.FromHexError.{FromHexError}
-use Rattle.hex.specs.declared.error.FromHexError.TheVariants.{OddLength}
+use Rattle.hex.specs.declared.error.FromHexError.TheVariants.{OddLength, InvalidStringLength}
 use Rattle.std.proofs.lemmas.Bool.{eqb-true}
 
 same_digit : (c : ℕ) → hex_digit_value c ≡ digit_below 16 (digit c)
@@ -90,5 +90,30 @@ unread cs true e =
     let o = eqb-true (length cs % 2) 1 e in
     sym (ap (λ r. cond (r == 0 && all_digits 16 cs) (Some (map (pair_at cs) (range_with_len 0 (length cs / 2)))) None) o)
 
-pub decoded : (cs : List ℕ) → result_ok (decode_of cs) ≡ hexed cs
+decoded : (cs : List ℕ) → result_ok (decode_of cs) ≡ hexed cs
 decoded cs = unread cs (eqb (length cs % 2) 1) refl
+
+-- room for half as many bytes as there are digits is the right room
+sized : (cs : List ℕ) (n : ℕ) → n ≡ length cs / 2 → decode_sized cs n ≡ decode_of cs
+sized cs n e =
+    let t : (length cs / 2 == n) ≡ true = grind (arith, nat_tests) in
+    ap (λ b. cond (length cs % 2 == 1) (Err OddLength) (cond b (decode_pairs 0 cs) (Err InvalidStringLength))) t
+
+given : (r : Result (List ℕ) FromHexError) (answer : Result (Unit {0}) FromHexError) (out : List ℕ)
+    → MatchResult r (λ bytes. (answer ≡ Ok tt) × (out ≡ bytes)) (λ e. answer ≡ Err e) → (u : Unit {0}) → answer ≡ Ok u → Some out ≡ result_ok r
+given (Ok bytes) answer out m u is = ap Some m.1
+given (Err e) answer out m u is = let f : ⊥ = cc in absurd f
+
+lacking : (r : Result (List ℕ) FromHexError) (answer : Result (Unit {0}) FromHexError) (out : List ℕ)
+    → MatchResult r (λ bytes. (answer ≡ Ok tt) × (out ≡ bytes)) (λ e. answer ≡ Err e) → (e : FromHexError) → answer ≡ Err e → None ≡ result_ok r
+lacking (Ok bytes) answer out m e is = let f : ⊥ = cc in absurd f
+lacking (Err e) answer out m d is = refl
+
+-- what decoding into such room leaves there is what the digits say
+pub filled : (cs : List ℕ) (n : ℕ) (answer : Result (Unit {0}) FromHexError) (out : List ℕ) → n ≡ length cs / 2
+    → MatchResult (decode_sized cs n) (λ bytes. (answer ≡ Ok tt) × (out ≡ bytes)) (λ e. answer ≡ Err e) → (u : Unit {0}) → answer ≡ Ok u → Some out ≡ hexed cs
+filled cs n answer out e m u is = given (decode_sized cs n) answer out m u is ∙ ap result_ok (sized cs n e) ∙ decoded cs
+
+pub unfilled : (cs : List ℕ) (n : ℕ) (answer : Result (Unit {0}) FromHexError) (out : List ℕ) → n ≡ length cs / 2
+    → MatchResult (decode_sized cs n) (λ bytes. (answer ≡ Ok tt) × (out ≡ bytes)) (λ e. answer ≡ Err e) → (e : FromHexError) → answer ≡ Err e → None ≡ hexed cs
+unfilled cs n answer out e m d is = lacking (decode_sized cs n) answer out m d is ∙ ap result_ok (sized cs n e) ∙ decoded cs
