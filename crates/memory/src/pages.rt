@@ -7,7 +7,7 @@ use crate::buffer::{Buffer, Kind};
 /// The size of a page in bytes.
 pub const PAGE: usize = 4096;
 
-/// A page number that no address has: the page of a byte without a place.
+/// A page number that no address has: the walk is total, and gives it for a byte without a place.
 const NOWHERE: usize = 4503599627370496;
 
 /// Eight bytes of memory, the low one first; none where they are not all in memory.

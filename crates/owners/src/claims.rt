@@ -63,6 +63,7 @@ impl Owners {
         for (i, piece) in pieces.iter().enumerate() {
             let slot = ((first.slot as usize + i % SLOTS) % SLOTS) as u8;
             let owner = Owner { slot, ..first };
+            // Not by `?`: what was marked is taken back before the refusal is passed on.
             if let Err(refusal) = self.claim_buffer(memory, i, *piece, owner) {
                 self.unclaim_pieces(memory, &pieces[..i]);
                 return Err(refusal);
