@@ -4,6 +4,7 @@ ghost use Rattle.script.specs.Faults.{texted, told};
 ghost use Rattle.script.specs.declared.fault.Wrong.TheVariants.{NoMemory};
 
 use std::alloc::{AllocError, AllocFailed};
+use std::error::Error;
 use std::fmt;
 
 /// What is wrong with a line.
@@ -76,6 +77,10 @@ impl fmt::Display for Fault {
         write!(f, "{line}: {wrong}")
     }
 }
+
+impl Error for Wrong {}
+
+impl Error for Fault {}
 
 impl From<AllocError> for Wrong {
     ghost from_gives = { λ _ r. r ≡ NoMemory };
