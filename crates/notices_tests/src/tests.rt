@@ -7,7 +7,10 @@ use std::test::*;
 // Bytes for notices.
 const BYTES: [u8; 57] = [3; 57];
 
-// What is done to a notice buffer.
+// What a test says whose buffer is refused.
+const REFUSED: &str = "4,096 bytes are refused";
+
+// What is done to a notice buffer: data that tables list in turn, so no closures.
 #[derive(Clone, Copy)]
 enum Act {
     // Switches on.
@@ -71,15 +74,11 @@ fn done(notices: &mut Notices, act: Act) -> Came {
 // Does one thing after another on a new buffer, and compares.
 fn compared(rt: &(impl Abort + Alloc), acts: &[(Act, Came)]) -> Result<(), Fail> {
     let mut buffer = vec![in rt.alloc(); 7u8; BUFFER]?;
-    match Notices::new(buffer.as_mut_slice()) {
-        Ok(mut notices) => {
-            for (act, expected) in acts {
-                assert_eq!(rt; done(&mut notices, *act), *expected);
-            }
-            Ok(())
-        }
-        Err(_) => Err(Fail::new("4,096 bytes are refused")),
+    let mut notices = Notices::new(buffer.as_mut_slice()).map_err(|_| Fail::new(REFUSED))?;
+    for (act, expected) in acts {
+        assert_eq!(rt; done(&mut notices, *act), *expected);
     }
+    Ok(())
 }
 
 // The same so often, each with the next block as its answer.
@@ -137,27 +136,22 @@ fn sizes_and_keys_of_notices(rt: HostRuntime) -> Result<(), Fail> {
 #[test]
 fn full_and_round(rt: HostRuntime) -> Result<(), Fail> {
     let mut buffer = vec![in rt.alloc(); 0u8; BUFFER]?;
-    match Notices::new(buffer.as_mut_slice()) {
-        Ok(mut notices) => {
-            let good = done(&mut notices, Act::On) == Came::Done
-                && in_turn(&mut notices, Act::Arrive(5, None, 2), 0, 64)
-                && done(&mut notices, Act::Arrive(6, None, 2))
-                    == Came::Refused(Refusal::NoticesFull)
-                && done(&mut notices, Act::Marks) == Came::Marks(false, true)
-                && done(&mut notices, Act::Byte(0, 2)) == Came::Byte(Some(5))
-                && done(&mut notices, Act::Arrive(6, None, 2)) == Came::Refused(Refusal::NoticesOff)
-                && in_turn(&mut notices, Act::Take, 0, 3)
-                && done(&mut notices, Act::On) == Came::Done
-                && done(&mut notices, Act::Marks) == Came::Marks(true, false)
-                && in_turn(&mut notices, Act::Arrive(6, Some(1), 2), 0, 3)
-                && done(&mut notices, Act::Byte(0, 3)) == Came::Byte(Some(0xc0))
-                && in_turn(&mut notices, Act::Take, 3, 64)
-                && done(&mut notices, Act::Take) == Came::Refused(Refusal::NothingThere);
-            assert!(rt; good);
-            Ok(())
-        }
-        Err(_) => Err(Fail::new("4,096 bytes are refused")),
-    }
+    let mut notices = Notices::new(buffer.as_mut_slice()).map_err(|_| Fail::new(REFUSED))?;
+    let good = done(&mut notices, Act::On) == Came::Done
+        && in_turn(&mut notices, Act::Arrive(5, None, 2), 0, 64)
+        && done(&mut notices, Act::Arrive(6, None, 2)) == Came::Refused(Refusal::NoticesFull)
+        && done(&mut notices, Act::Marks) == Came::Marks(false, true)
+        && done(&mut notices, Act::Byte(0, 2)) == Came::Byte(Some(5))
+        && done(&mut notices, Act::Arrive(6, None, 2)) == Came::Refused(Refusal::NoticesOff)
+        && in_turn(&mut notices, Act::Take, 0, 3)
+        && done(&mut notices, Act::On) == Came::Done
+        && done(&mut notices, Act::Marks) == Came::Marks(true, false)
+        && in_turn(&mut notices, Act::Arrive(6, Some(1), 2), 0, 3)
+        && done(&mut notices, Act::Byte(0, 3)) == Came::Byte(Some(0xc0))
+        && in_turn(&mut notices, Act::Take, 3, 64)
+        && done(&mut notices, Act::Take) == Came::Refused(Refusal::NothingThere);
+    assert!(rt; good);
+    Ok(())
 }
 
 #[test]

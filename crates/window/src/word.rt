@@ -21,6 +21,7 @@ pub struct SequenceRange {
     ghost within: { range ≤ 32 },
 }
 
+// `word` and `first` come from two hands, a link's vector and the place of who reads it, so no struct holds them together.
 impl SequenceRange {
     /// The range of so many numbers; above 32 it is taken as 32.
     pub fn new(range: u8) -> SequenceRange
