@@ -16,6 +16,7 @@ pub struct Text {
     ghost short: { length lengths.items ≤ 2 ^ 24 },
 }
 
+// That a cursor lies within the bytes is a fact of both, so each call asks it.
 impl Text {
     /// A text of these bytes and lengths: the first 16,777,216 of each.
     pub fn new(mut bytes: Vec<u8>, mut lengths: Vec<u32>) -> Text
