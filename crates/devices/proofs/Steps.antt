@@ -10,7 +10,7 @@ use Rattle.link.proofs.Sound.{burst_most}
 use Rattle.devices.specs.declared.ahead.Ahead.{Ahead}
 use Rattle.devices.specs.declared.sink.Sink.{Sink}
 use Rattle.devices.specs.declared.since.Since.{Since}
-use Rattle.devices.specs.declared.since.Since.TheVariants.{Nothing, Otherwise}
+use Rattle.devices.specs.declared.since.Since.TheVariants.{Otherwise}
 use Rattle.devices.specs.Early.{early_from, early_of, kept_at, packets}
 use Rattle.devices.specs.Stored.{taken_in, space_of, most_of}
 use Rattle.devices.specs.Taken.{lacks}
@@ -18,8 +18,7 @@ use Rattle.devices.specs.Waiting.{Waits, AllWait}
 use Rattle.devices.specs.Keeping.{after_waits, after_past, kept_first, kept_gather, waits_of}
 use Rattle.devices.specs.Since.{lacked_one}
 use Rattle.devices.specs.Sinks.{sink_at, sink_of}
-use Rattle.devices.specs.Sinking.{SinkPipe, Sent, lacking, dropped, kept, noted, short, SentIn, CollectedIn, SinkCollected, Answers}
-use Rattle.link.specs.declared.answers.Collected.{Collected}
+use Rattle.devices.specs.Sinking.{SinkPipe, Sent, lacking, dropped, kept, noted, short, SentIn}
 
 -- a sink that was restarted with the numbers of v
 module _ (s : Sink) (v : SoundWindow) (is : s.window ≡ Some v) where
@@ -97,7 +96,3 @@ module _ (s : Sink) (v : SoundWindow) (is : s.window ≡ Some v) where
           (subst (λ y. Kept (record { numbers = numbers_of s.window; taken = t; early = early_from (length t) (early_of y) }) j b (record { numbers = numbers_of s.window; taken = t; early = early_from (length t) (kept_at j b (packets a)) })) (sym q)
           (kept_gather (packets a) j b t m.from (omega (arith, m.within, burst_most v.window v.within)) near (numbers_of s.window) none_kept)))
           (sym (ap is_some q)) refl refl refl)
-
-pub collected_at : (k : SinkPipe) (p : ℕ) (a : Collected) (w : Window) (c : Since) → p ≡ 0 → k.out.numbers ≡ Some w → k.since ≡ c → Answers c w k.out a → SinkCollected k p a (noted Nothing k)
-collected_at k p a w c z e i h = subst (λ q. SinkCollected k q a (noted Nothing k)) (sym z)
-    (subst (λ n. CollectedIn n k a (noted Nothing k)) (sym e) (subst (λ v. Answers v w k.out a) (sym i) h, refl))

@@ -1,11 +1,11 @@
 -- A vector made bit by bit.
-use Rattle.std.proofs.Common.{◌≡◌, ℕ, ◌+◌, ◌*◌, ◌%◌, ◌^◌, ◌<◌, ◌≤◌, true, false, List, is_some, Some, None, Option, sym, refl, ap, ◌∙◌, subst, inl, inr, add-zero, mod-lt, pow-suc, add-one, arith, MatchOption}
+use Rattle.std.proofs.Common.{◌≡◌, ℕ, ◌+◌, ◌*◌, ◌%◌, ◌^◌, ◌<◌, ◌≤◌, true, false, List, is_some, Some, None, Option, sym, refl, ap, ◌∙◌, subst, inl, inr, add-zero, pow-suc, add-one, arith, MatchOption}
 use Rattle.std.proofs.lemmas.Nat.{one_shl}
 use Rattle.std.proofs.lemmas.Bool.{both_ways, cases_lt, cases_order}
 use Rattle.link.specs.declared.term.Window.{Window}
 use Rattle.window.specs.Numbers.{bit}
 use Rattle.window.proofs.Bits.{bit_low, bit_high, bit_past}
-use Rattle.link.specs.Meaning.{Bit, Meant, Vector}
+use Rattle.link.specs.Meaning.{Bit, Meant}
 
 -- one bit more on top leaves those below it
 under_top : (v k s : ℕ) → s < k → bit (v + 2 ^ k) s ≡ bit v s
@@ -29,13 +29,6 @@ pub record Upto (w : Window) (f : ℕ) (early : ℕ → Option (List ℕ)) (n v 
   pub only : (s : ℕ) → Bit v s → (j : ℕ) × Meant w f early s j
 
 module _ (w : Window) (f : ℕ) (early : ℕ → Option (List ℕ)) where
-  pub upto_none : Upto w f early 0 0
-  upto_none = record {
-    small = omega arith;
-    set = λ s j l. absurd (let z : ⊥ = omega arith in z);
-    only = λ s b. absurd (past_top 0 0 s (omega arith) (omega arith) b);
-  }
-
   pub upto_set : (n v j : ℕ) → Upto w f early n v → Meant w f early n j → Upto w f early (n + 1) (v + 2 ^ n)
   upto_set n v j u m = record {
     small = omega (arith, u.small, twice n);
@@ -59,12 +52,6 @@ module _ (w : Window) (f : ℕ) (early : ℕ → Option (List ℕ)) where
       | inl x ↦ u.set s i x k
       | inr x ↦ (let e : s ≡ n = omega arith in absurd (m i (subst (λ t. Meant w f early t i) e k)))
     ];
-    only = u.only;
-  }
-
-  pub upto_all : (v : ℕ) → 0 < w.range → Upto w f early w.range v → Vector w f early v
-  upto_all v p u = record {
-    set = λ s j m. u.set s j (omega (arith, m.number, mod-lt j p)) m;
     only = u.only;
   }
 

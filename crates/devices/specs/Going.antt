@@ -1,10 +1,9 @@
 -- Packets taken one after another from those kept ahead.
-use Rattle.std.specs.Prelude.{◌≡◌, ℕ, ◌+◌, ◌-◌, ◌*◌, ◌<◌, ◌≤◌, List, [], ◌∷◌, ◌++◌, length, get_or, take, Some, None, Option, slice_index_or}
+use Rattle.std.specs.Prelude.{◌≡◌, ℕ, ◌+◌, ◌-◌, ◌*◌, ◌<◌, ◌≤◌, List, [], ◌∷◌, ◌++◌, length, get_or, take, Some, Option, slice_index_or}
 use Rattle.std.proofs.Common.{sym, ap, subst, ◌∙◌, inl, inr, add-mul, one-mul, arith}
-use Rattle.std.proofs.lemmas.List.{take_all, take-append-le, length_push, get_or_push, get_or_append_left}
+use Rattle.std.proofs.lemmas.List.{take-append-le, length_push, get_or_push, get_or_append_left}
 use Rattle.std.proofs.lemmas.Bool.{cases_lt}
 use Rattle.link.specs.declared.term.Window.{Window}
-use Rattle.link.specs.Meaning.{Follows}
 use Rattle.reader.specs.Restarted.{size_of}
 use Rattle.devices.specs.Cutting.{bytes_push}
 use Rattle.devices.specs.Waiting.{AllWait}
@@ -15,9 +14,6 @@ pub record Going (taken : List (List ℕ)) (e : ℕ → Option (List ℕ)) (t : 
   pub more : (k : ℕ) → length taken ≤ k → k < length t → e k ≡ Some (slice_index_or t k [])
 
 module _ (t : List (List ℕ)) (e : ℕ → Option (List ℕ)) where
-  pub going_none : Going t e t
-  going_none = record { long = omega arith; old = take_all (length t) t (omega arith); more = λ k l h. absurd (let z : ⊥ = omega arith in z) }
-
   pub going_more : (u v : List (List ℕ)) (b : List ℕ) → Going t e u → e (length u) ≡ Some b → v ≡ u ++ b ∷ [] → Going t e v
   going_more u v b g x q =
       let n : length v ≡ length u + 1 = ap length q ∙ length_push u b in
@@ -30,9 +26,6 @@ module _ (t : List (List ℕ)) (e : ℕ → Option (List ℕ)) where
               subst (λ i. e i ≡ Some b) z x ∙ ap Some (sym (ap (λ w. get_or w k []) q ∙ get_or_push u b [] k z)))
         ];
       }
-
-  pub going_all : (u : List (List ℕ)) → Going t e u → e (length u) ≡ None → Follows t e u
-  going_all u g x = record { old = g.old; more = g.more; stops = x }
 
 -- one packet of at most the size more leaves space for the others
 pub waits_more : (n : Option Window) (t : List (List ℕ)) (space most : ℕ) (e : ℕ → Option (List ℕ)) (b : List ℕ) → AllWait n t space most e → length b ≤ size_of n

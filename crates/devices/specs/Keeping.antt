@@ -62,9 +62,6 @@ module _ (w : Window) (f : ℕ) (e : ℕ → Option (List ℕ)) (s j : ℕ) (h :
       let same : i ≡ j = mod_near w.range i j (omega arith) (omega arith) (x.number ∙ sym m.number) in
       never (List ℕ) _ (sym x.fresh ∙ early_at f e i c ∙ ap e same ∙ q)
 
-  pub meant_free : Meant w f (λ k. None) s j → e j ≡ None → Meant w f (early_from f e) s j
-  meant_free m q = record { from = m.from; within = m.within; number = m.number; fresh = early_at f e j m.from ∙ q }
-
 -- a packet that does not lack space has it
 module _ (space most size bytes f j many : ℕ) (h : lacks space most size bytes f j many ≡ false) where
   pub spaced_of : bytes + (j - f) * size + many ≤ space

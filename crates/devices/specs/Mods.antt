@@ -18,9 +18,6 @@ mod_near M a b l h e = elim (cases_lt a b) [
 ]
 
 module _ (w : Window) (f s : ℕ) (h : sound w ≡ true) where
-  pub stands_past : w.range ≤ s → (j : ℕ) → Meant w f (λ k. None) s j → ⊥
-  stands_past l j m = omega (arith, m.number, mod-lt j (let p : 0 < w.range = omega (arith, range_least w h) in p))
-
   pub stands_at : s < w.range → (w.range - f % w.range + s) % w.range < w.burst → Meant w f (λ k. None) s (f + (w.range - f % w.range + s) % w.range)
   stands_at l b = record { from = omega arith; within = omega arith; number = back w.range f s l; fresh = refl }
 

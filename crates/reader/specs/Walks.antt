@@ -1,6 +1,6 @@
 -- How a cursor goes through its text.
 use Rattle.std.specs.Prelude.{◌≡◌, ℕ, suc, ◌+◌, ◌-◌, ◌%◌, ◌<◌, ◌≤◌, min, List, [], ◌∷◌, ◌++◌, length, take, drop, ◌≢◌, nat_lt, slice_index, refl}
-use Rattle.std.proofs.Common.{sym, ap, subst, ◌∙◌, ⊎_elim, arith, length-drop, add-one, take-add, zero-le}
+use Rattle.std.proofs.Common.{sym, ap, subst, ◌∙◌, ⊎_elim, arith, length-drop, add-one, take-add}
 use Rattle.std.proofs.lemmas.List.{drop-drop, drop_all, take_all, drop_more, drop-take, length-take-le}
 use Rattle.std.proofs.lemmas.Bool.{cond-true, cond-false, lt-ltb, le-ltb, cases_lt}
 use Rattle.std.proofs.Math.Nat.{add-mod-mod}
@@ -10,7 +10,7 @@ use Rattle.link.specs.Text.{after, rest, text_packets}
 use Rattle.link.proofs.Cuts.{some_left}
 use Rattle.link.specs.Meaning.{Bit}
 use Rattle.reader.specs.declared.cursor.Place.{Place}
-use Rattle.reader.specs.Seeking.{Found, Missing}
+use Rattle.reader.specs.Seeking.{Missing}
 use Rattle.reader.specs.declared.cursor.Cursor.{Cursor}
 use Rattle.reader.specs.Reading.{messages, less, text_at, Stands, Next}
 
@@ -107,9 +107,6 @@ pub record Walked (bs ls : List ℕ) (P M b : ℕ) (c : Place) (at : Cursor) (d 
   pub none : (j : ℕ) → c.number ≤ j → j < c.number + d → Bit b (j % M) → ⊥
 
 module _ (bs ls : List ℕ) (P M b : ℕ) (c : Place) where
-  pub walked_none : c.at.here ≤ length bs → c.at.message ≤ length ls → c.number ≤ c.at.here + c.at.message → Walked bs ls P M b c c.at 0
-  walked_none i m s = record { text = refl; count = zero-le; inside = i; within = m; small = omega arith; none = λ j l h. absurd (let x : ⊥ = omega arith in x) }
-
   -- one packet more that is not wanted
   more_none : (d : ℕ) → ((j : ℕ) → c.number ≤ j → j < c.number + d → Bit b (j % M) → ⊥) → (Bit b ((c.number + d) % M) → ⊥)
       → (j : ℕ) → c.number ≤ j → j < c.number + d + 1 → Bit b (j % M) → ⊥
@@ -125,19 +122,6 @@ module _ (bs ls : List ℕ) (P M b : ℕ) (c : Place) where
     small = omega (arith, k.small, x.more);
     none = λ j l h. more_none d k.none none j l (omega arith);
   }
-
-  pub walked_found : (at : Cursor) (d : ℕ) → Walked bs ls P M b c at d → Bit b ((c.number + d) % M) → Found bs ls P M b c (record { at = at; number = c.number + d })
-  walked_found at d k x = record {
-    aim = record { from = omega arith; set = x; first = k.none };
-    text = k.text ∙ ap (λ v. rest P (text_at bs ls c.at) v) (let e : d ≡ c.number + d - c.number = omega arith in e);
-    count = omega (arith, k.count);
-    inside = k.inside;
-    within = k.within;
-    small = k.small;
-  }
-
-  pub walked_end : (at : Cursor) (d : ℕ) → Walked bs ls P M b c at d → text_at bs ls at ≡ [] → (Bit b ((c.number + d) % M) → ⊥) → Missing bs ls P M b c
-  walked_end at d k e none a x = (d, sym k.text ∙ e, ⊎_elim (λ l. l) (λ g. absurd (more_none d k.none none a x.from (omega arith) x.set)) (cases_lt (c.number + d) a))
 
   pub walked_all : (at : Cursor) (d : ℕ) → Walked bs ls P M b c at d → M ≤ d → 0 < M → Missing bs ls P M b c
   walked_all at d k far r a x =

@@ -16,7 +16,7 @@ pub struct Text {
     ghost short: { length lengths.items ≤ 2 ^ 24 },
 }
 
-// A cursor is handed in with the fact that it lies inside: a value that held text and cursor would borrow the text while a reader changes its place.
+// That a cursor lies within the bytes is a fact of both, so each call asks it: a value that held both would borrow the text while a reader changes its place.
 impl Text {
     /// A text of these bytes and lengths: the first 16,777,216 of each.
     pub fn new(mut bytes: Vec<u8>, mut lengths: Vec<u32>) -> Text

@@ -1,5 +1,5 @@
 -- Each early packet that follows is taken, in its turn.
-use Rattle.std.proofs.Common.{◌≡◌, ℕ, ◌+◌, ◌-◌, ◌*◌, ◌≤◌, List, length, Some, Option, sym, refl, ap, ◌∙◌, zero-mul, arith}
+use Rattle.std.proofs.Common.{◌≡◌, ℕ, ◌+◌, ◌-◌, ◌*◌, ◌≤◌, List, length, Some, Option, sym, ap, ◌∙◌, zero-mul, arith}
 use Rattle.std.proofs.lemmas.List.{length_push}
 use Rattle.link.specs.declared.term.Window.{Window}
 use Rattle.link.specs.Terms.{bytes_of}
@@ -7,7 +7,7 @@ use Rattle.link.proofs.Sound.{size_most}
 use Rattle.devices.specs.Early.{packets}
 use Rattle.devices.specs.Stored.{most_of, space_of, taken_in}
 use Rattle.devices.specs.Waiting.{Waits, AllWait}
-use Rattle.devices.specs.Going.{going_none, going_more, going_all, waits_more, waits_at}
+use Rattle.devices.specs.Going.{going_more, waits_more, waits_at}
 use Rattle.devices.proofs.settle.settle.Goals as goal
 
 -- packet f, if it waits, has space at once
@@ -23,9 +23,6 @@ module _ (w : Window) (t : List (List ℕ)) (space most : ℕ) (e : ℕ → Opti
 
   waits : AllWait (Some w) t space most e → Waits (Some w) t space most (length t) b
   waits h = h (length t) b found
-
-pub loop-packet-init : goal.loop-packet-init
-loop-packet-init c = (going_none _ _, c.requires, refl, refl)
 
 pub append-requires : goal.append-requires
 append-requires c =
@@ -58,13 +55,3 @@ loop-packet-preserved c =
       a.space ∙ i.2,
       a.most ∙ i.3,
     )
-
-pub returns : goal.returns
-returns c =
-    let i = c.loop-packet.invariant in
-    record {
-      taken = going_all _ _ _ i.0 (ap (packets c.args.ahead.now) (sym c.count.ensures) ∙ sym c.in_default.ensures);
-      waiting = i.1;
-      space = i.2;
-      most = i.3;
-    }
