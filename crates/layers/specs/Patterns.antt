@@ -1,18 +1,15 @@
 -- A pattern of 64 bits that are taken one after another, and what a layer does by it.
-use Rattle.std.specs.Prelude.{◌≡◌, ℕ, ◌+◌, ◌/◌, ◌%◌, ◌^◌, Bool, true, false, MatchBool, ◌==◌}
+use Rattle.std.specs.Prelude.{◌≡◌, ℕ, ◌+◌, ◌%◌, Bool, true, false, MatchBool, ◌==◌}
+use Rattle.std.specs.Int.{bit_at}
 use Rattle.layers.specs.declared.pattern.Pattern.{Pattern}
-
--- the bit at a position is set
-abbrev pub bit_at : ℕ → ℕ → Bool
-bit_at bits position = bits / 2 ^ position % 2 == 1
 
 -- the position after it, and round again
 abbrev pub following : ℕ → ℕ
 following position = (position + 1) % 64
 
--- the bit that is taken next
+-- the bit that is taken next is set
 abbrev pub next_bit : Pattern → Bool
-next_bit x = bit_at x.bits x.position
+next_bit x = bit_at x.bits x.position == 1
 
 -- a pattern of which no bit was taken
 abbrev pub Begins : ℕ → Pattern → Type 0

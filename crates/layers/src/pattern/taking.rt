@@ -17,7 +17,7 @@ impl Pattern {
         ensures is { result ≡ next_bit self.old }
         ensures on { MovesOn self.old self.new }
     {
-        let bit = (self.bits >> self.position) % 2 == 1;
+        let bit = (self.bits >> self.position) & 1 == 1;
         self.position = (self.position + 1) % 64;
         bit
     }
