@@ -15,6 +15,7 @@ use Rattle.devices.specs.Early.{early_from, early_of, kept_at, packets}
 use Rattle.devices.specs.Stored.{taken_in, space_of, most_of}
 use Rattle.devices.specs.Taken.{lacks}
 use Rattle.devices.specs.Waiting.{Waits, AllWait}
+use Rattle.devices.specs.Going.{waits_at, waits_more}
 use Rattle.devices.specs.Keeping.{after_waits, after_past, kept_first, kept_gather, waits_of}
 use Rattle.devices.specs.Since.{lacked_one}
 use Rattle.devices.specs.Sinks.{sink_at, sink_of}
@@ -41,6 +42,13 @@ module _ (s : Sink) (v : SoundWindow) (is : s.window ≡ Some v) where
   pub waiting_then : (a : Option Ahead) (t' : List (List ℕ)) (space' most' : ℕ) → s.ahead ≡ a → AllWait (Some v.window) t' space' most' (early_of a)
       → AllWait (numbers_of s.window) t' space' most' (early_of s.ahead)
   waiting_then a t' space' most' q h = subst (λ x. AllWait (numbers_of s.window) t' space' most' (early_of x)) (sym q) (subst (λ n. AllWait n t' space' most' (early_of a)) (sym numbers) h)
+
+  -- once a packet of at most P bytes is appended; w is the window as code has it
+  pub waiting_appended : (a : Option Ahead) (w : Window) (b : List ℕ) (t' : List (List ℕ)) (space' most' : ℕ) → s.ahead ≡ a → w ≡ v.window → length b ≤ w.packet
+      → t' ≡ t ++ b ∷ [] → space' ≡ space → most' ≡ most → AllWait (Some v.window) t' space' most' (early_of a)
+  waiting_appended a w b t' space' most' q same small x y z =
+      waits_at (Some v.window) _ t' _ space' _ most' (early_of a) x y z
+      (waits_more (Some v.window) t space most (early_of a) b (waiting_now a q) (subst (λ u. length b ≤ u.packet) same small))
 
   -- a Send of at most P bytes that stands for packet j; w is the window as code has it, r whether the packet lacks space
   module _ (w : Window) (same_w : w ≡ v.window) (number : ℕ) (b : List ℕ) (j : ℕ) (m : Meant v.window (length t) (sink_of s).out.early number j) (small_w : length b ≤ w.packet)

@@ -57,7 +57,7 @@ impl Sink {
         } else if j == self.store.count() {
             self.store.append(bytes);
             if let Some(ahead) = &self.ahead {
-                settle(&mut self.store, ahead, window);
+                settle(&mut self.store, ahead);
             }
         } else if let Some(ahead) = &mut self.ahead {
             ahead.keep(j, bytes);

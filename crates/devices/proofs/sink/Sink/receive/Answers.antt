@@ -1,30 +1,32 @@
 -- A Send of a sink, by what becomes of its packet.
-use Rattle.std.proofs.Common.{◌≢◌, ◌∷◌, ◌++◌, [], ◌≤◌, length, Some, None, sym, refl, ap, ◌∙◌, subst, arith}
+use Rattle.std.proofs.Common.{◌≢◌, ◌∷◌, ◌++◌, [], length, Some, None, sym, refl, ap, ◌∙◌, subst}
 use Rattle.link.specs.Meaning.{Follows}
 use Rattle.devices.specs.Early.{early_of, packets}
-use Rattle.devices.specs.Going.{waits_more, waits_at}
+use Rattle.link.proofs.Sound.{size_most}
 use Rattle.devices.specs.Keeping.{follows_none}
 use Rattle.devices.specs.Stored.{taken_in, space_of, most_of}
-use Rattle.devices.proofs.Steps.{waiting_now, waiting_then, waiting_after, past_after, sent_lacking, sent_dropped, sent_first, sent_ahead}
+use Rattle.devices.proofs.Steps.{waiting_appended, waiting_then, waiting_after, past_after, sent_lacking, sent_dropped, sent_first, sent_ahead}
 use Rattle.devices.proofs.sink.Sink.receive.Goals as goal
 
 pub settle-requires : goal.settle-requires
 settle-requires c =
-    let s = c.args.self.now in
     let v = c.in-Some.window in
-    let e = packets c.in-Some-ahead.ahead in
-    let a = c.append.ensures in
-    let small : length c.args.bytes.now ≤ v.window.packet = omega (arith, c.if-bytes-size.false, ap (λ w. w.packet) c.get-size.ensures.value) in
-    waits_at (Some v.window) _ _ _ _ _ _ e a.taken a.space a.most
-    (waits_more (Some v.window) (taken_in s.store) (space_of s.store) (most_of s.store) e c.args.bytes.now (waiting_now s v c.in-Some.is (Some c.in-Some-ahead.ahead) c.in-Some-ahead.is) small)
+    let a = c.append.ensures in (
+      Some v.window,
+      size_most v.window v.within,
+      waiting_appended c.args.self.now v c.in-Some.is (Some c.in-Some-ahead.ahead) c.get-size.result c.args.bytes.now _ _ _ c.in-Some-ahead.is c.get-size.ensures.value c.if-bytes-size.false a.taken a.space a.most,
+    )
 
 pub invariant_of-self-in-Some-ahead : goal.invariant_of-self-in-Some-ahead
 invariant_of-self-in-Some-ahead c =
     let s = c.args.self.now in
+    let v = c.in-Some.window in
     let t = c.settle.new.store in
+    let a = c.append.ensures in
     let b = c.settle.ensures in
+    let before = waiting_appended s v c.in-Some.is (Some c.in-Some-ahead.ahead) c.get-size.result c.args.bytes.now _ _ _ c.in-Some-ahead.is c.get-size.ensures.value c.if-bytes-size.false a.taken a.space a.most in
     record {
-      waiting = waiting_then s c.in-Some.window c.in-Some.is (Some c.in-Some-ahead.ahead) (taken_in t) (space_of t) (most_of t) c.in-Some-ahead.is b.waiting;
+      waiting = waiting_then s v c.in-Some.is (Some c.in-Some-ahead.ahead) (taken_in t) (space_of t) (most_of t) c.in-Some-ahead.is (b.waiting (Some v.window) before);
       past = ap (λ a. early_of a (length (taken_in t))) c.in-Some-ahead.is ∙ b.taken.stops;
     }
 
