@@ -6,6 +6,7 @@ ghost use Rattle.reader.specs.Bytes.{flat, lengths_of, sum_of};
 use std::alloc::{AllocError, Global};
 
 /// Packets one after another, in space that is reserved when it is made: as many lengths as there is capacity for, and `space` bytes.
+// Joined, with the lengths beside: a Vec for each packet would allocate after the store is made.
 #[derive(Drop)]
 pub struct Store {
     bytes: Vec<u8>,

@@ -11,6 +11,7 @@ pub const LONGEST: usize = 3584;
 pub struct TooLong;
 
 /// Room for one packet, seen as the bytes that it holds.
+// No `ArrayVec`: it clears element by element, up to 3,584 steps for each packet beside its one copy. No `Vec`: making one can fail.
 #[derive(Drop)]
 pub struct Packet {
     room: [u8; LONGEST],

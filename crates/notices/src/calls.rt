@@ -9,6 +9,7 @@ use crate::notice::Notice;
 use refusal::Refusal;
 use ring::Ring;
 
+// `lent` stands at each call: of a struct that holds a `&mut` the language asks it of each function, and an invariant cannot speak of before and after.
 impl<'a> Notices<'a> {
     /// A notice buffer over 4,096 lent bytes: zeroed, off, from block 0.
     pub fn new(buffer: &'a mut [u8]) -> Result<Notices<'a>, Refusal>

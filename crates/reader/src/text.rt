@@ -8,6 +8,7 @@ pub mod seek;
 use crate::cursor::Cursor;
 
 /// Bytes cut into messages of given lengths, as many of each as a term may have.
+// Joined as they are handed over: a Vec for each message would allocate, and copy every byte.
 #[derive(Drop)]
 pub struct Text {
     bytes: Vec<u8>,
@@ -85,6 +86,7 @@ impl Text {
             return &[];
         };
         let most = self.bytes.len() - at.here;
+        // A for: of a `fold` the check does not find that the sum fits, since the closure's `many` has no bound.
         let mut many = left;
         for length in &self.lengths[at.message + 1..] {
             many = (many + *length as usize).min(most);

@@ -68,7 +68,7 @@ impl<'a> Rest<'a> {
         self.words.next().ok_or(Wrong::MissingWord)
     }
 
-    // Nothing more stands on the line.
+    // Nothing more stands on the line. A match: None is the good case here, and `ok_or` has it the other way round.
     fn end(&mut self) -> Result<(), Wrong> {
         match self.words.next() {
             Some(_) => Err(Wrong::ExtraWord),

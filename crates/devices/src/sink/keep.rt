@@ -27,6 +27,7 @@ impl Sink {
     pub(crate) fn vector(&self, window: SoundWindow) -> u32
         ensures { Vector window.window (length (sink_of self.now).out.taken) (sink_of self.now).out.early result }
     {
+        // The numbers themselves are counted, and each is a bit: a fold of words would say it no plainer.
         let mut bits = 0;
         for number in 0..window.get().range {
             if self.meant(window, number).is_some() {
