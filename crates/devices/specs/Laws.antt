@@ -7,7 +7,7 @@ use Rattle.link.specs.declared.answers.PollAnswer.TheVariants as poll
 use Rattle.link.specs.declared.answers.Collected.{Collected}
 use Rattle.link.specs.Bounds.{sound}
 use Rattle.link.specs.Meaning.{Out, Pipe, absent, outward, solo, Only, Restarts, Polls, Fetches, Sends, Keeps, Collects, Shows, Tells}
-use Rattle.link.proofs.Solo.{still_absent}
+use Rattle.link.specs.Optional.{still_absent}
 use Rattle.link.proofs.Solo as one-pipe
 use Rattle.devices.specs.declared.since.Since.{Since}
 use Rattle.devices.specs.declared.since.Since.TheVariants.{Nothing, Lacking, Otherwise}

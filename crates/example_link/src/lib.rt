@@ -2,10 +2,11 @@
 #![tactic(auto)]
 
 ghost use Rattle.std.specs.Prelude.{◌≡◌, ℕ, length, None};
-ghost use Rattle.example_link.specs.Lamp.{CollectedLamp, FetchedLamp, PolledLamp, RestartedLamp, SentLamp, lamp, shown};
+ghost use Rattle.example_link.specs.Lamp.{CollectedLamp, FetchedLamp, PolledLamp, RestartedLamp, SentLamp, shown};
 ghost use Rattle.link.specs.Numbered.{numbers_of, numbers_sound};
 ghost use Rattle.link.specs.Meaning.{Vector, outward, solo};
 ghost use Rattle.example_link.specs.Lamps.{send_law};
+ghost use Rattle.example_link.specs.Seen.{lamp_of};
 ghost use Rattle.std.proofs.Common.{rules};
 
 use link::{Collected, Direction, Fetched, Link, Packet, PollAnswer, SoundWindow, Window};
@@ -54,17 +55,17 @@ impl Lamp {
 }
 
 impl Link for Lamp {
-    ghost meaning = { λ s. solo (outward (lamp (numbers_of s.window) s.shows)) };
+    ghost meaning = { λ s. solo (outward (lamp_of s)) };
 
-    ghost restarted = { λ s p w t. RestartedLamp (lamp (numbers_of s.window) s.shows) p w (lamp (numbers_of t.window) t.shows) };
+    ghost restarted = { λ s p w t. RestartedLamp (lamp_of s) p w (lamp_of t) };
 
-    ghost polled = { λ s p b a t. PolledLamp (lamp (numbers_of s.window) s.shows) a (lamp (numbers_of t.window) t.shows) };
+    ghost polled = { λ s p b a t. PolledLamp (lamp_of s) a (lamp_of t) };
 
-    ghost fetched = { λ s p i a t. FetchedLamp (lamp (numbers_of s.window) s.shows) a (lamp (numbers_of t.window) t.shows) };
+    ghost fetched = { λ s p i a t. FetchedLamp (lamp_of s) a (lamp_of t) };
 
-    ghost sent = { λ s p n b t. SentLamp (lamp (numbers_of s.window) s.shows) p n b (lamp (numbers_of t.window) t.shows) };
+    ghost sent = { λ s p n b t. SentLamp (lamp_of s) p n b (lamp_of t) };
 
-    ghost collected = { λ s p a t. CollectedLamp (lamp (numbers_of s.window) s.shows) p a (lamp (numbers_of t.window) t.shows) };
+    ghost collected = { λ s p a t. CollectedLamp (lamp_of s) p a (lamp_of t) };
 
     ghost above = { Prim.search rules };
 
@@ -96,22 +97,21 @@ impl Link for Lamp {
         }
     }
 
-    fn poll(&mut self, pipe: u8, wanted: u32) -> PollAnswer {
+    fn poll(&mut self, _pipe: u8, _wanted: u32) -> PollAnswer {
         PollAnswer::Stall
     }
 
-    fn fetch(&mut self, pipe: u8, offset: u8, into: &mut Packet) -> Fetched {
+    fn fetch(&mut self, _pipe: u8, _offset: u8, _into: &mut Packet) -> Fetched {
         Fetched::Lost
     }
 
     fn send(&mut self, pipe: u8, number: u8, bytes: &[u8]) {
-        if pipe == 0
-            && self.window.is_some()
-            && self.shows.is_none()
-            && number == 0
-            && bytes.len() == 1
-        {
-            self.shows = Some(bytes[0]);
+        match *bytes {
+            [brightness]
+                if pipe == 0 && self.window.is_some() && self.shows.is_none() && number == 0 => {
+                self.shows = Some(brightness);
+            }
+            _ => {}
         }
     }
 

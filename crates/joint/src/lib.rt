@@ -9,7 +9,7 @@ ghost use Rattle.link.specs.declared.answers.Collected.TheVariants.{Stall as Hal
 ghost use Rattle.link.specs.declared.answers.PollAnswer.TheVariants.{Stall};
 ghost use Rattle.link.specs.Meaning.{admits, absent, Restarts, Polls, Fetches, Sends, Collects};
 ghost use Rattle.link.specs.Meets.{answered};
-ghost use Rattle.link.proofs.Solo.{still_absent};
+ghost use Rattle.link.specs.Optional.{still_absent};
 
 use link::{Collected, Direction, Fetched, Link, Packet, PollAnswer, Window};
 
@@ -104,7 +104,7 @@ impl<X: Link, Y: Link> Link for Joint<X, Y> {
     ghost collecting = { λ s t p a. steps_meet X.Link.meaning Y.Link.meaning (λ x y. Collects x a y) p _ _ _ (λ x y. X.Link.collecting x y p a) (λ q x y. Y.Link.collecting x y q a) (answered (λ v. Collects absent v absent) (tt, refl)) s t };
 
     fn describe(&self, pipe: u8) -> Option<Direction> {
-        // not by `side`, which would ask the second link twice
+        // Not by `side`, which would ask the second link twice.
         if pipe < self.split {
             self.first.describe(pipe)
         } else if pipe < 32 {

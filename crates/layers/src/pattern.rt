@@ -3,7 +3,8 @@ ghost use Rattle.std.specs.Prelude.{◌≡◌, ◌<◌};
 
 pub mod taking;
 
-/// 64 bits that are taken one after another, from bit 0 and round again. No iterator: none of them is the last.
+/// 64 bits that are taken one after another, from bit 0 and round again.
+// No iterator: none of them is the last.
 #[derive(Clone, Copy)]
 pub struct Pattern {
     bits: u64,

@@ -1,5 +1,5 @@
 -- A link of one pipe, numbered 0: what its step on that pipe means for the whole link.
-use Rattle.std.proofs.Common.{◌≡◌, ℕ, zero, suc, ◌≤◌, Bool, true, false, cond, sym, refl, ap, subst, arith}
+use Rattle.std.proofs.Common.{◌≡◌, ℕ, zero, suc, ◌≤◌, sym, refl, ap, subst, arith}
 use Rattle.link.specs.Meaning.{Pipe, absent, solo, Only, Gapless}
 use Rattle.link.specs.Terms.{Bounded}
 
@@ -13,11 +13,6 @@ only_same p a b e j h = ap (λ v. solo v j) e
 -- a step that changes nothing
 pub unchanged : (C : Pipe → Pipe → Type 0) (a b : Pipe) (p : ℕ) → b ≡ a → C (solo a p) (solo a p) → C (solo a p) (solo b p) × Only p (solo a) (solo b)
 unchanged C a b p e h = (subst (λ v. C (solo a p) (solo v p)) (sym e) h, only_same p a b e)
-
--- a Restart of an absent pipe
-pub still_absent : (b : Bool) → absent ≡ cond b absent absent
-still_absent true = refl
-still_absent false = refl
 
 pub above_one : (q : Pipe) (p : ℕ) → 32 ≤ p → solo q p ≡ absent
 above_one q zero h = absurd (let x : ⊥ = omega arith in x)

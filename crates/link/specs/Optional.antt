@@ -26,7 +26,7 @@ passes_meets f C p F N some none (Some x) None h = absurd h
 passes_meets f C p F N some none (Some x) (Some t) h = some x t h
 
 -- an absent pipe stays so at a Restart
-still_absent : (b : Bool) → absent ≡ cond b absent absent
+pub still_absent : (b : Bool) → absent ≡ cond b absent absent
 still_absent true = refl
 still_absent false = refl
 

@@ -61,7 +61,8 @@ impl From<PollAnswer> for u8 {
     }
 }
 
-/// What a Fetch answers. The packet stands in the room that was lent, so that no layer copies it.
+/// What a Fetch answers.
+// No Option of a packet: it stands in the room that was lent, so that no layer copies it.
 #[derive(Clone, Copy, PartialEq, Eq, Debug)]
 pub enum Fetched {
     /// The packet came, and stands in the room that was lent.

@@ -8,7 +8,7 @@ use ring::Ring;
 pub struct Notices<'a> {
     pub(crate) buffer: &'a mut [u8],
     pub(crate) ring: Ring<64>,
-    // Two marks, and no enum of three states: each is asked for by itself, and each call's definition speaks of one.
+    // Two marks, as the definitions of the calls have them: an enum of the three states would be taken apart again in each look.
     pub(crate) on: bool,
     pub(crate) overflow: bool,
     ghost whole: { length buffer.now ≡ 4096 },

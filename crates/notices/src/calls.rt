@@ -66,9 +66,7 @@ impl Notices<'_> {
         ensures after { board self.new ≡ taken (board self.old) }
         ensures lent { self.new.buffer.ghost_name ≡ self.old.buffer.ghost_name }
     {
-        let Some(oldest) = self.ring.release() else {
-            return Err(Refusal::NothingThere);
-        };
+        let oldest = self.ring.release().ok_or(Refusal::NothingThere)?;
         clear_valid(self.buffer, oldest);
         Ok(oldest)
     }

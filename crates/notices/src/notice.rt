@@ -28,8 +28,7 @@ impl Notice<'_> {
     pub fn fits(self) -> bool
         ensures { result ≡ fits self.entry.key self.entry.bytes.now }
     {
-        let n = self.bytes.len();
-        n >= 1 && n <= 56 && self.key.unwrap_or(0) < 16_777_216
+        (1..=56).contains(&self.bytes.len()) && self.key.is_none_or(|key| key < 1 << 24)
     }
 
     // The block of a notice that fits.

@@ -7,9 +7,6 @@ use std::test::*;
 // Bytes for notices.
 const BYTES: [u8; 57] = [3; 57];
 
-// What a test says whose buffer is refused.
-const REFUSED: &str = "4,096 bytes are refused";
-
 // What is done to a notice buffer: data that tables list in turn, so no closures.
 #[derive(Clone, Copy)]
 enum Act {
@@ -30,23 +27,12 @@ enum Act {
 enum Came {
     // Nothing is answered.
     Done,
-    // The block that was answered.
-    Block(usize),
-    // It was refused.
-    Refused(Refusal),
+    // The block that was answered, or the refusal.
+    Answered(Result<usize, Refusal>),
     // The byte that is there, if there is such a block.
     Byte(Option<u8>),
     // Whether notices are on, and whether overflow is marked.
     Marks(bool, bool),
-}
-
-impl From<Result<usize, Refusal>> for Came {
-    fn from(answer: Result<usize, Refusal>) -> Came {
-        match answer {
-            Ok(block) => Came::Block(block),
-            Err(refusal) => Came::Refused(refusal),
-        }
-    }
 }
 
 // Does it, and says what came of it.
@@ -56,12 +42,12 @@ fn done(notices: &mut Notices, act: Act) -> Came {
             notices.switch_on();
             Came::Done
         }
-        Act::Arrive(source, key, size) => Came::from(notices.arrive(Notice {
+        Act::Arrive(source, key, size) => Came::Answered(notices.arrive(Notice {
             source,
             key,
             bytes: &BYTES[..size.min(57)],
         })),
-        Act::Take => Came::from(notices.take()),
+        Act::Take => Came::Answered(notices.take()),
         Act::Byte(block, at) => Came::Byte(
             notices
                 .block(block)
@@ -74,7 +60,7 @@ fn done(notices: &mut Notices, act: Act) -> Came {
 // Does one thing after another on a new buffer, and compares.
 fn compared(rt: &(impl Abort + Alloc), acts: &[(Act, Came)]) -> Result<(), Fail> {
     let mut buffer = vec![in rt.alloc(); 7u8; BUFFER]?;
-    let mut notices = Notices::new(buffer.as_mut_slice()).map_err(|_| Fail::new(REFUSED))?;
+    let mut notices = Notices::new(buffer.as_mut_slice())?;
     for (act, expected) in acts {
         assert_eq!(rt; done(&mut notices, *act), *expected);
     }
@@ -83,7 +69,8 @@ fn compared(rt: &(impl Abort + Alloc), acts: &[(Act, Came)]) -> Result<(), Fail>
 
 // The same so often, each with the next block as its answer.
 fn in_turn(notices: &mut Notices, act: Act, first: usize, many: usize) -> bool {
-    (first..first.saturating_add(many)).all(|block| done(notices, act) == Came::Block(block % 64))
+    (first..first.saturating_add(many)).all(|block| done(notices, act)
+        == Came::Answered(Ok(block % 64)))
 }
 
 #[test]
@@ -108,17 +95,26 @@ fn sizes_and_keys_of_notices(rt: HostRuntime) -> Result<(), Fail> {
     compared(
         &rt,
         &[
-            (Act::Arrive(1, None, 0), Came::Refused(Refusal::BadNotice)),
-            (Act::Arrive(1, None, 1), Came::Refused(Refusal::NoticesOff)),
-            (Act::Take, Came::Refused(Refusal::NothingThere)),
+            (
+                Act::Arrive(1, None, 0),
+                Came::Answered(Err(Refusal::BadNotice)),
+            ),
+            (
+                Act::Arrive(1, None, 1),
+                Came::Answered(Err(Refusal::NoticesOff)),
+            ),
+            (Act::Take, Came::Answered(Err(Refusal::NothingThere))),
             (Act::On, Came::Done),
-            (Act::Arrive(1, None, 1), Came::Block(0)),
-            (Act::Arrive(1, None, 56), Came::Block(1)),
-            (Act::Arrive(1, None, 57), Came::Refused(Refusal::BadNotice)),
-            (Act::Arrive(9, Some(16_777_215), 2), Came::Block(2)),
+            (Act::Arrive(1, None, 1), Came::Answered(Ok(0))),
+            (Act::Arrive(1, None, 56), Came::Answered(Ok(1))),
+            (
+                Act::Arrive(1, None, 57),
+                Came::Answered(Err(Refusal::BadNotice)),
+            ),
+            (Act::Arrive(9, Some(16_777_215), 2), Came::Answered(Ok(2))),
             (
                 Act::Arrive(9, Some(16_777_216), 2),
-                Came::Refused(Refusal::BadNotice),
+                Came::Answered(Err(Refusal::BadNotice)),
             ),
             (Act::Byte(0, 3), Came::Byte(Some(0x80))),
             (Act::Byte(1, 0), Came::Byte(Some(56))),
@@ -127,7 +123,7 @@ fn sizes_and_keys_of_notices(rt: HostRuntime) -> Result<(), Fail> {
             (Act::Byte(2, 3), Came::Byte(Some(0xc0))),
             (Act::Byte(2, 6), Came::Byte(Some(255))),
             (Act::Byte(2, 7), Came::Byte(Some(0))),
-            (Act::Take, Came::Block(0)),
+            (Act::Take, Came::Answered(Ok(0))),
             (Act::Byte(0, 3), Came::Byte(Some(0))),
         ],
     )
@@ -136,20 +132,20 @@ fn sizes_and_keys_of_notices(rt: HostRuntime) -> Result<(), Fail> {
 #[test]
 fn full_and_round(rt: HostRuntime) -> Result<(), Fail> {
     let mut buffer = vec![in rt.alloc(); 0u8; BUFFER]?;
-    let mut notices = Notices::new(buffer.as_mut_slice()).map_err(|_| Fail::new(REFUSED))?;
+    let mut notices = Notices::new(buffer.as_mut_slice())?;
     let good = done(&mut notices, Act::On) == Came::Done
         && in_turn(&mut notices, Act::Arrive(5, None, 2), 0, 64)
-        && done(&mut notices, Act::Arrive(6, None, 2)) == Came::Refused(Refusal::NoticesFull)
+        && done(&mut notices, Act::Arrive(6, None, 2)) == Came::Answered(Err(Refusal::NoticesFull))
         && done(&mut notices, Act::Marks) == Came::Marks(false, true)
         && done(&mut notices, Act::Byte(0, 2)) == Came::Byte(Some(5))
-        && done(&mut notices, Act::Arrive(6, None, 2)) == Came::Refused(Refusal::NoticesOff)
+        && done(&mut notices, Act::Arrive(6, None, 2)) == Came::Answered(Err(Refusal::NoticesOff))
         && in_turn(&mut notices, Act::Take, 0, 3)
         && done(&mut notices, Act::On) == Came::Done
         && done(&mut notices, Act::Marks) == Came::Marks(true, false)
         && in_turn(&mut notices, Act::Arrive(6, Some(1), 2), 0, 3)
         && done(&mut notices, Act::Byte(0, 3)) == Came::Byte(Some(0xc0))
         && in_turn(&mut notices, Act::Take, 3, 64)
-        && done(&mut notices, Act::Take) == Came::Refused(Refusal::NothingThere);
+        && done(&mut notices, Act::Take) == Came::Answered(Err(Refusal::NothingThere));
     assert!(rt; good);
     Ok(())
 }

@@ -8,7 +8,8 @@ use Rattle.link.specs.Text.{rest, text_packets}
 use Rattle.link.specs.Meaning.{In, Pipe, absent, inward, Aim, Allowed, unacknowledged, moved, count, solo, Polls, Fetches, Restarts, Only, Moves, MayGive, Sends, Collects}
 use Rattle.link.specs.Terms.{total, bytes_of, InBounds, Bounded}
 use Rattle.link.proofs.Sound.{sized}
-use Rattle.link.proofs.Solo.{only_zero, only_same, still_absent, bounds_one}
+use Rattle.link.proofs.Solo.{only_zero, only_same, bounds_one}
+use Rattle.link.specs.Optional.{still_absent}
 use Rattle.link.specs.declared.answers.Collected.{Collected}
 use Rattle.link.specs.declared.answers.Collected.TheVariants as collected
 use Rattle.link.specs.declared.term.Window.{Window}

@@ -3,10 +3,12 @@ ghost use Rattle.std.specs.Prelude.{◌≡◌, Some};
 ghost use Rattle.refusal.specs.Texts.{words, pointed, written};
 
 use crate::reason::{Refusal, Spot};
+use std::error::Error;
 use std::fmt;
 
 impl Refusal {
     /// The condition in words.
+    // A call of its own beside Display: a program may show the words without the number.
     pub fn words(self) -> &'static str
         ensures { result.now ≡ words self }
     {
@@ -37,7 +39,7 @@ impl fmt::Display for Spot {
 
     fn fmt<W: fmt::Write>(&self, f: &mut fmt::Formatter<W>) -> fmt::Result {
         match *self {
-            Spot::Call => write!(f, ""),
+            Spot::Call => Ok(()),
             Spot::Piece(piece) => write!(f, ", piece {piece}"),
             Spot::Entry(piece, entry) => write!(f, ", piece {piece}, entry {entry}"),
         }
@@ -54,3 +56,5 @@ impl fmt::Display for Refusal {
         write!(f, "refused {number}{spot}: {words}")
     }
 }
+
+impl Error for Refusal {}
