@@ -72,6 +72,7 @@ impl Store {
     }
 
     /// One more packet.
+    // `lacks_space`, this call and `Ahead::keep` each ask for the bound of a length: the slice is handed on as it came, and a type around it would be made and opened at each call.
     pub fn append(&mut self, packet: &[u8])
         requires small { length packet.now ≤ 3584 }
         requires spaced { bytes_of (taken_in self.old) + length packet.now ≤ space_of self.old }
