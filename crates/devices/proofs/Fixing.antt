@@ -7,15 +7,14 @@ use Rattle.link.specs.declared.answers.Collected.TheVariants as collected
 use Rattle.link.specs.Bounds.{sound, sounds}
 use Rattle.link.specs.Meaning.{Out, Meant, Kept, Vector}
 use Rattle.link.proofs.Fixed.{kept_same, vector_same}
+use Rattle.link.proofs.Once.{meant_once}
 use Rattle.link.proofs.Solo.{solo_gapless}
-use Rattle.link.proofs.Sound.{range_twice, range_least}
 use Rattle.devices.specs.declared.since.Since.{Since}
 use Rattle.devices.specs.declared.since.Since.TheVariants.{Nothing, Lacking, Otherwise}
 use Rattle.devices.specs.Sinking.{SinkPipe, Sent, nowhere, lacking, dropped, kept, short, SentIn, SinkSent, SinkRestarted, SinkCollected, CollectedIn, Answers}
 use Rattle.devices.specs.Fixed.{Word, SinksFixed, NoGaps, PlainInOrder}
 use Rattle.devices.specs.Keeping.{plain_none}
 use Rattle.devices.specs.Stored.{taken_in}
-use Rattle.devices.specs.Mods.{mod_near}
 
 sink_restart : (i j k : SinkPipe) (p : ℕ) (w : Window) → SinkRestarted i p w j → SinkRestarted i p w k → j ≡ k
 sink_restart i j k zero w x y = x ∙ sym y
@@ -32,10 +31,7 @@ sink_same x y g a b c d =
 
 module _ (w : Window) (k : SinkPipe) (s : ℕ) (b : List ℕ) (h : sound w ≡ true) where
   meant_same : (i j : ℕ) → Meant w (length k.out.taken) k.out.early s i → Meant w (length k.out.taken) k.out.early s j → i ≡ j
-  meant_same i j x y =
-      let a = x.from in let c = x.within in let d = y.from in let e = y.within in
-      let r = range_twice w h in let q = range_least w h in
-      mod_near w.range i j (omega arith) (omega arith) (x.number ∙ sym y.number)
+  meant_same i j = meant_once w (length k.out.taken) k.out.early s i j h
 
   full_not : (i j : ℕ) → i ≡ j → short w k i (length b) ≡ true → short w k j (length b) ≡ false → ⊥
   full_not i j e x y = both_ways (short w k j (length b)) y (subst (λ v. short w k v (length b) ≡ true) e x)

@@ -3,6 +3,7 @@ use Rattle.std.specs.Prelude.{◌≡◌, ℕ, ◌+◌, ◌-◌, ◌*◌, ◌%◌
 use Rattle.std.proofs.Common.{sym, ap, subst, ◌∙◌, inl, inr, arith, length-take}
 use Rattle.std.proofs.Math.Path.{fun_ext}
 use Rattle.std.proofs.lemmas.List.{take_all, take-take, take_at, length_push, get_or_push, get_or-take}
+use Rattle.std.proofs.lemmas.Option.{none-some}
 use Rattle.std.proofs.lemmas.Bool.{cases_lt, cases_eq, cond-true, cond-false, lt-ltb, le-ltb, eq-eqb, ne_eqb, or_parts, ltb-false, both_ways}
 use Rattle.link.specs.declared.term.Window.{Window}
 use Rattle.link.specs.Bounds.{sound}
@@ -18,9 +19,6 @@ use Rattle.devices.specs.Waiting.{Waits, AllWait}
 use Rattle.devices.specs.Mods.{mod_near}
 use Rattle.link.proofs.Sound.{range_twice, range_least}
 
-pub never : (A : Type 0) (n : A) → ◌≡◌ {A = Option A} None (Some n) → ⊥
-never A n e = let z : ◌≡◌ {A = ℕ} 0 1 = cc in omega arith
-
 none_from : (b : Bool) (x : Option (List ℕ)) → x ≡ None → cond b None x ≡ None
 none_from true x h = refl
 none_from false x h = h
@@ -30,7 +28,7 @@ nothing_early f e h = fun_ext (λ k. none_from (nat_lt k f) (e k) (ap (λ v. v k
 
 -- where nothing is, nothing waits
 pub none_waits : (n : Option Window) (t : List (List ℕ)) (space most : ℕ) (e : ℕ → Option (List ℕ)) → e ≡ (λ k. None) → AllWait n t space most e
-none_waits n t space most e h k b q = absurd (never (List ℕ) b (sym (ap (λ v. v k) h) ∙ q))
+none_waits n t space most e h k b q = absurd (none-some b (sym (ap (λ v. v k) h) ∙ q))
 
 early_at : (f : ℕ) (e : ℕ → Option (List ℕ)) (k : ℕ) → f ≤ k → early_from f e k ≡ e k
 early_at f e k l = cond-false (nat_lt k f) None (e k) (le-ltb k f l)
@@ -38,7 +36,7 @@ early_at f e k l = cond-false (nat_lt k f) None (e k) (le-ltb k f l)
 -- an early packet is one from f on
 pub early_is : (f : ℕ) (e : ℕ → Option (List ℕ)) (k : ℕ) (b : List ℕ) → early_from f e k ≡ Some b → (f ≤ k) × (e k ≡ Some b)
 early_is f e k b q = elim (cases_lt k f) [
-  | inl l ↦ absurd (never (List ℕ) b (sym (cond-true (nat_lt k f) None (e k) (lt-ltb k f l)) ∙ q))
+  | inl l ↦ absurd (none-some b (sym (cond-true (nat_lt k f) None (e k) (lt-ltb k f l)) ∙ q))
   | inr l ↦ (l, sym (early_at f e k l) ∙ q)
 ]
 
@@ -46,7 +44,7 @@ early_is f e k b q = elim (cases_lt k f) [
 pub past_free : (e : ℕ → Option (List ℕ)) (f : ℕ) → e f ≡ None → (k : ℕ) (b : List ℕ) → e k ≡ Some b → f ≤ k → f < k
 past_free e f none k b q l = elim (cases_lt f k) [
   | inl x ↦ x
-  | inr x ↦ (let same : k ≡ f = omega arith in absurd (never (List ℕ) b (sym none ∙ ap e (sym same) ∙ q)))
+  | inr x ↦ (let same : k ≡ f = omega arith in absurd (none-some b (sym none ∙ ap e (sym same) ∙ q)))
 ]
 
 module _ (w : Window) (f : ℕ) (e : ℕ → Option (List ℕ)) (s j : ℕ) (h : sound w ≡ true) where
@@ -60,7 +58,7 @@ module _ (w : Window) (f : ℕ) (e : ℕ → Option (List ℕ)) (s j : ℕ) (h :
       let c = x.from in
       let d = x.within in
       let same : i ≡ j = mod_near w.range i j (omega arith) (omega arith) (x.number ∙ sym m.number) in
-      never (List ℕ) _ (sym x.fresh ∙ early_at f e i c ∙ ap e same ∙ q)
+      none-some _ (sym x.fresh ∙ early_at f e i c ∙ ap e same ∙ q)
 
 -- a packet that does not lack space has it
 module _ (space most size bytes f j many : ℕ) (h : lacks space most size bytes f j many ≡ false) where
@@ -81,7 +79,7 @@ module _ (e : ℕ → Option (List ℕ)) (j : ℕ) (b : List ℕ) where
   kept_after k c h = elim (cases_eq (k % 16) (j % 16)) [
     | inl q ↦ elim (cases_eq j k) [
       | inl z ↦ inl (sym z, (let x : Some c ≡ Some b = sym h ∙ kept_same k q ∙ cond-true (j == k) (Some b) None (eq-eqb j k z) in let y : c ≡ b = cc in y))
-      | inr z ↦ absurd (never (List ℕ) c (sym (sym h ∙ kept_same k q ∙ cond-false (j == k) (Some b) None (ne_eqb j k z))))
+      | inr z ↦ absurd (none-some c (sym (sym h ∙ kept_same k q ∙ cond-false (j == k) (Some b) None (ne_eqb j k z))))
     ]
     | inr q ↦ inr (sym (kept_other k q) ∙ h)
   ]

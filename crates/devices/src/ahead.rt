@@ -5,7 +5,11 @@ ghost use Rattle.std.specs.Option.{option_map};
 use link::Packet;
 use std::alloc::{AllocError, Global};
 
+/// How many slots there are: as many as the longest burst has packets.
+const SLOTS: usize = 16;
+
 /// Room for one packet, and the number of the packet that is in it, if there is one.
+// The number stands beside the packet and not around it, since the room stays where it is: a packet put into an Option would write all its 3,584 bytes anew.
 #[derive(Drop)]
 pub struct Slot {
     number: Option<usize>,
@@ -26,8 +30,8 @@ impl Ahead {
     pub fn new(heap: Global) -> Result<Ahead, AllocError>
         ensures { IfOk result (λ a. packets a ≡ (λ k. None)) }
     {
-        let mut slots = Vec::with_capacity(heap, 16)?;
-        for _ in 0..16u8 {
+        let mut slots = Vec::with_capacity(heap, SLOTS)?;
+        for _ in 0..SLOTS {
             slots.push_reserved(Slot {
                 number: None,
                 packet: Packet::new(),
@@ -40,7 +44,7 @@ impl Ahead {
     pub fn packet(&self, j: usize) -> Option<&[u8]>
         ensures { option_map (λ b. b.now) result ≡ packets self.now j }
     {
-        let slot = &self.slots[j % 16];
+        let slot = &self.slots[j % SLOTS];
         (slot.number == Some(j)).then_some(slot.packet.bytes())
     }
 
@@ -49,7 +53,7 @@ impl Ahead {
         requires { length bytes.now ≤ 3584 }
         ensures { packets self.new ≡ kept_at j bytes.now (packets self.old) }
     {
-        let slot = &mut self.slots[j % 16];
+        let slot = &mut self.slots[j % SLOTS];
         slot.packet.fill(bytes).unwrap();
         slot.number = Some(j);
     }

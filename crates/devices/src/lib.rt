@@ -6,9 +6,11 @@ pub mod fixed;
 mod settle;
 mod since;
 pub mod sink;
+mod space;
 mod standing;
 mod store;
 
 pub use fixed::sinks_fixed;
 pub use reader::{Reader, reader_fixed};
 pub use sink::Sink;
+pub use space::Space;

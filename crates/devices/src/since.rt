@@ -2,7 +2,8 @@
 ghost use Rattle.devices.specs.Since.{lacked_one};
 ghost use Rattle.std.specs.Prelude.{◌≡◌};
 
-/// What the Sends since the last Collect or Restart came to. Three cases with names, and no Option of a bool.
+/// What the Sends since the last Collect or Restart came to.
+// Three cases with names, and no Option of a bool.
 #[derive(Clone, Copy)]
 pub enum Since {
     /// There was none.

@@ -3,6 +3,7 @@ ghost use Rattle.std.specs.Prelude.{◌≡◌, ◌+◌, ◌^◌, ◌<◌, ◌≤
 ghost use Rattle.link.specs.Terms.{bytes_of};
 ghost use Rattle.reader.specs.Bytes.{flat, lengths_of, sum_of};
 
+use crate::space::Space;
 use std::alloc::{AllocError, Global};
 
 /// Packets one after another, in space that is reserved when it is made: as many lengths as there is capacity for, and `space` bytes.
@@ -25,16 +26,16 @@ impl Store {
     ghost use Rattle.devices.specs.Stored.{most_of, space_of, taken_in};
 
     /// Space for so many bytes and lengths, within the bounds of a term.
-    pub fn new(heap: Global, space: usize, most: usize) -> Result<Store, AllocError>
+    pub fn new(heap: Global, space: Space) -> Result<Store, AllocError>
         ensures taken { IfOk result (λ s. taken_in s ≡ []) }
-        ensures space { IfOk result (λ s. space_of s ≡ min space (2 ^ 24)) }
-        ensures most { IfOk result (λ s. most_of s ≡ min most (2 ^ 25)) }
+        ensures space { IfOk result (λ s. space_of s ≡ min space.bytes (2 ^ 24)) }
+        ensures most { IfOk result (λ s. most_of s ≡ min space.packets (2 ^ 25)) }
     {
-        let space = space.min(1 << 24);
+        let bytes = space.bytes.min(1 << 24);
         Ok(Store {
-            bytes: Vec::with_capacity(heap, space)?,
-            lengths: Vec::with_capacity(heap, most.min(1 << 25))?,
-            space,
+            bytes: Vec::with_capacity(heap, bytes)?,
+            lengths: Vec::with_capacity(heap, space.packets.min(1 << 25))?,
+            space: bytes,
         })
     }
 
@@ -71,6 +72,7 @@ impl Store {
     }
 
     /// One more packet.
+    // `lacks_space`, this call and `Ahead::keep` each ask for the bound of a length: the slice is handed on as it came, and a type around it would be made and opened at each call.
     pub fn append(&mut self, packet: &[u8])
         requires small { length packet.now ≤ 3584 }
         requires spaced { bytes_of (taken_in self.old) + length packet.now ≤ space_of self.old }

@@ -76,7 +76,7 @@ fn exact_multiples_end_in_an_empty_packet(rt: HostRuntime) -> Result<(), Fail> {
     // The place after two packets: the empty rest is a message still.
     assert!(rt; r.poll(0, 0b111_1100) == PollAnswer::Data);
     assert!(rt; r.unsent_messages() == 1);
-    assert!(rt; r.unsent_bytes().len() == 0);
+    assert!(rt; r.unsent_bytes().is_empty());
     assert!(rt; fetches(&mut r, 0, Some(&[])));
     assert!(rt; r.poll(0, 0b1000) == PollAnswer::NotReady);
     assert!(rt; r.unsent_messages() == 0);
@@ -106,7 +106,7 @@ fn no_message_at_all(rt: HostRuntime) -> Result<(), Fail> {
     let mut r = reader(rt, &[1, 2, 3], &[])?;
     r.restart(0, numbers());
     assert!(rt; r.unsent_messages() == 0);
-    assert!(rt; r.unsent_bytes().len() == 0);
+    assert!(rt; r.unsent_bytes().is_empty());
     assert!(rt; r.poll(0, 1) == PollAnswer::NotReady);
     assert!(rt; fetches(&mut r, 0, None));
     // An aim past the packet count.

@@ -1,5 +1,5 @@
 //! The sinks at their bounds: order, early packets, the wrap.
-use crate::windows::{numbers, window};
+use crate::windows::{numbers, space, window};
 use devices::Sink;
 use link::{Collected, Direction, Fetched, Link, Packet, PollAnswer};
 use std::test::Fail;
@@ -7,7 +7,7 @@ use std::test::Fail;
 #[test]
 fn one_outward_pipe(rt: HostRuntime) -> Result<(), Fail> {
     let mut into = Packet::new();
-    let mut s = Sink::plain(rt.alloc(), 100, 10)?;
+    let mut s = Sink::plain(rt.alloc(), space(100, 10))?;
     assert!(rt; s.describe(0) == Some(Direction::Outward));
     assert!(rt; s.describe(1) == None);
     assert!(rt; s.poll(0, 1) == PollAnswer::Stall);
@@ -19,10 +19,10 @@ fn one_outward_pipe(rt: HostRuntime) -> Result<(), Fail> {
 
 #[test]
 fn nothing_before_a_restart(rt: HostRuntime) -> Result<(), Fail> {
-    let mut s = Sink::gathering(rt.alloc(), 100, 10)?;
+    let mut s = Sink::gathering(rt.alloc(), space(100, 10))?;
     assert!(rt; s.collect(0) == Collected::Stall);
     s.send(0, 0, &[1]);
-    assert!(rt; s.taken_lengths().len() == 0);
+    assert!(rt; s.taken_lengths().is_empty());
     s.restart(0, window(4, 4, 7));
     s.restart(0, window(3585, 4, 8));
     s.restart(0, window(4, 17, 34));
@@ -35,7 +35,7 @@ fn nothing_before_a_restart(rt: HostRuntime) -> Result<(), Fail> {
 
 #[test]
 fn packets_in_order(rt: HostRuntime) -> Result<(), Fail> {
-    let mut s = Sink::plain(rt.alloc(), 100, 10)?;
+    let mut s = Sink::plain(rt.alloc(), space(100, 10))?;
     s.restart(0, numbers());
     s.send(0, 0, &[1, 2, 3, 4]);
     s.send(0, 1, &[]);
@@ -56,7 +56,7 @@ fn packets_in_order(rt: HostRuntime) -> Result<(), Fail> {
 
 #[test]
 fn a_plain_sink_keeps_no_early_packet(rt: HostRuntime) -> Result<(), Fail> {
-    let mut s = Sink::plain(rt.alloc(), 100, 10)?;
+    let mut s = Sink::plain(rt.alloc(), space(100, 10))?;
     s.restart(0, numbers());
     s.send(0, 1, &[2]);
     s.send(0, 0, &[1]);
@@ -67,12 +67,12 @@ fn a_plain_sink_keeps_no_early_packet(rt: HostRuntime) -> Result<(), Fail> {
 
 #[test]
 fn a_gathering_sink_keeps_early_packets(rt: HostRuntime) -> Result<(), Fail> {
-    let mut s = Sink::gathering(rt.alloc(), 100, 10)?;
+    let mut s = Sink::gathering(rt.alloc(), space(100, 10))?;
     s.restart(0, numbers());
     s.send(0, 1, &[2]);
     s.send(0, 3, &[4, 4]);
     // Not taken at once, and its bit is clear.
-    assert!(rt; s.taken_lengths().len() == 0);
+    assert!(rt; s.taken_lengths().is_empty());
     assert!(rt; s.collect(0) == Collected::Vector(0x05));
     // An early packet that comes again is dropped.
     s.send(0, 1, &[9]);
@@ -89,7 +89,7 @@ fn a_gathering_sink_keeps_early_packets(rt: HostRuntime) -> Result<(), Fail> {
 #[test]
 fn the_wrap_with_a_packet_lost(rt: HostRuntime) -> Result<(), Fail> {
     // Six packets are taken; number 6 is lost, 7 and 0 are kept, 1 is lost: numbers 6 and 1 are wanted.
-    let mut s = Sink::gathering(rt.alloc(), 100, 20)?;
+    let mut s = Sink::gathering(rt.alloc(), space(100, 20))?;
     s.restart(0, numbers());
     for n in 0..6 {
         s.send(0, n, &[n]);
@@ -112,7 +112,7 @@ fn the_wrap_with_a_packet_lost(rt: HostRuntime) -> Result<(), Fail> {
 
 #[test]
 fn the_widest_window(rt: HostRuntime) -> Result<(), Fail> {
-    let mut s = Sink::gathering(rt.alloc(), 100, 40)?;
+    let mut s = Sink::gathering(rt.alloc(), space(100, 40))?;
     s.restart(0, window(1, 16, 32));
     assert!(rt; s.collect(0) == Collected::Vector(0xFFFF));
     s.send(0, 15, &[15]);
@@ -128,14 +128,14 @@ fn the_widest_window(rt: HostRuntime) -> Result<(), Fail> {
 
 #[test]
 fn a_restart_frees_all(rt: HostRuntime) -> Result<(), Fail> {
-    let mut s = Sink::gathering(rt.alloc(), 4, 2)?;
+    let mut s = Sink::gathering(rt.alloc(), space(4, 2))?;
     s.restart(0, window(2, 2, 4));
     s.send(0, 1, &[3, 4]);
     s.send(0, 0, &[1, 2]);
     assert!(rt; s.taken_bytes() == [1, 2, 3, 4].as_slice());
     s.restart(0, window(2, 2, 4));
-    assert!(rt; s.taken_bytes().len() == 0);
-    assert!(rt; s.taken_lengths().len() == 0);
+    assert!(rt; s.taken_bytes().is_empty());
+    assert!(rt; s.taken_lengths().is_empty());
     assert!(rt; s.collect(0) == Collected::Vector(0b11));
     s.send(0, 1, &[7]);
     assert!(rt; s.collect(0) == Collected::Vector(0b01));

@@ -1,12 +1,12 @@
 //! The sinks when there is no space: at exactly full, and what Collect says of it.
-use crate::windows::{numbers, window};
+use crate::windows::{numbers, space, window};
 use devices::Sink;
 use link::{Collected, Link};
 use std::test::Fail;
 
 #[test]
 fn exactly_full_of_bytes(rt: HostRuntime) -> Result<(), Fail> {
-    let mut s = Sink::plain(rt.alloc(), 5, 10)?;
+    let mut s = Sink::plain(rt.alloc(), space(5, 10))?;
     s.restart(0, numbers());
     s.send(0, 0, &[1, 2, 3, 4]);
     s.send(0, 1, &[5]);
@@ -23,7 +23,7 @@ fn exactly_full_of_bytes(rt: HostRuntime) -> Result<(), Fail> {
 
 #[test]
 fn exactly_full_of_lengths(rt: HostRuntime) -> Result<(), Fail> {
-    let mut s = Sink::plain(rt.alloc(), 100, 2)?;
+    let mut s = Sink::plain(rt.alloc(), space(100, 2))?;
     s.restart(0, numbers());
     s.send(0, 0, &[1]);
     s.send(0, 1, &[2]);
@@ -40,19 +40,19 @@ fn exactly_full_of_lengths(rt: HostRuntime) -> Result<(), Fail> {
 
 #[test]
 fn no_space_at_all(rt: HostRuntime) -> Result<(), Fail> {
-    let mut s = Sink::gathering(rt.alloc(), 0, 0)?;
+    let mut s = Sink::gathering(rt.alloc(), space(0, 0))?;
     s.restart(0, numbers());
     assert!(rt; s.collect(0) == Collected::Vector(0x0F));
     s.send(0, 0, &[]);
     assert!(rt; s.collect(0) == Collected::NotReady);
-    assert!(rt; s.taken_lengths().len() == 0);
+    assert!(rt; s.taken_lengths().is_empty());
     Ok(())
 }
 
 #[test]
 fn full_packets_count_for_those_before(rt: HostRuntime) -> Result<(), Fail> {
     // Packet 1 needs 0 + 4 + its own bytes: 6 bytes have space for two of them, not for three.
-    let mut s = Sink::gathering(rt.alloc(), 6, 10)?;
+    let mut s = Sink::gathering(rt.alloc(), space(6, 10))?;
     s.restart(0, numbers());
     s.send(0, 1, &[1, 2, 3]);
     assert!(rt; s.collect(0) == Collected::NotReady);
@@ -71,7 +71,7 @@ fn full_packets_count_for_those_before(rt: HostRuntime) -> Result<(), Fail> {
 
 #[test]
 fn one_send_that_did_not_lack_space(rt: HostRuntime) -> Result<(), Fail> {
-    let mut s = Sink::plain(rt.alloc(), 1, 10)?;
+    let mut s = Sink::plain(rt.alloc(), space(1, 10))?;
     s.restart(0, numbers());
     s.send(0, 0, &[1]);
     assert!(rt; s.collect(0) == Collected::Vector(0x1E));
@@ -94,7 +94,7 @@ fn one_send_that_did_not_lack_space(rt: HostRuntime) -> Result<(), Fail> {
 
 #[test]
 fn a_restart_out_of_bounds_forgets_nothing(rt: HostRuntime) -> Result<(), Fail> {
-    let mut s = Sink::plain(rt.alloc(), 0, 10)?;
+    let mut s = Sink::plain(rt.alloc(), space(0, 10))?;
     s.restart(0, numbers());
     s.send(0, 0, &[1]);
     s.restart(0, window(4, 0, 8));

@@ -59,6 +59,7 @@ pub fn reads_show()
 {}
 
 /// The premises of these theorems can be met.
+#[tactic(auto, using(crate::proofs::Happening::happens))]
 pub fn worlds_happen()
     ensures { Happens }
 {}

@@ -9,7 +9,8 @@ pub enum Kind {
     Listed,
 }
 
-/// The bytes of a piece: at an address, or in the pages that a list names. The kind stands beside the address, which is shown and compared whatever the kind.
+/// The bytes of a piece: at an address, or in the pages that a list names.
+// The kind stands beside the address, which is shown and compared whatever the kind.
 #[derive(Clone, Copy, Debug, PartialEq, Eq)]
 pub struct Buffer {
     pub kind: Kind,

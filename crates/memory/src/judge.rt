@@ -14,7 +14,8 @@ const LONGEST: u32 = 1048575;
 #[derive(Clone, Copy, Debug, PartialEq, Eq)]
 pub struct BadEntry;
 
-/// What of a piece is at fault. An enum and no Option of an entry, since it is an error: with None nothing would be at fault.
+/// What of a piece is at fault.
+// An enum and no Option of an entry, since it is an error: with None nothing would be at fault.
 #[derive(Clone, Copy, Debug, PartialEq, Eq)]
 pub enum Part {
     /// Its own address, length or page.

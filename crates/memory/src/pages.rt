@@ -8,7 +8,7 @@ use crate::buffer::{Buffer, Kind};
 pub const PAGE: usize = 4096;
 
 /// A page number that no address has: the walk is total, and gives it for a byte without a place.
-const NOWHERE: usize = 4503599627370496;
+const NOWHERE: usize = 1 << 52;
 
 /// Eight bytes of memory, the low one first; none where they are not all in memory.
 fn word_at(memory: &[u8], at: usize) -> Option<u64>
@@ -53,7 +53,7 @@ impl Buffer {
         }
     }
 
-    /// The number of page k, from 0.
+    /// The number of page k, from 0; one that no address has where the list has no such entry in its page.
     // Beside `page_at`, since every `u32` may be asked for, and the walk goes beyond them.
     pub fn page(self, memory: &[u8], k: u32) -> usize
         ensures { result ≡ page memory.now self k }
@@ -86,7 +86,7 @@ impl Buffer {
         self.pages_from(self.address as usize % PAGE)
     }
 
-    /// The page number and the offset of a byte.
+    /// The page number and the offset of a byte; without a place it has a page number that no address has.
     pub fn walk(self, memory: &[u8], byte: usize) -> (usize, usize)
         ensures { result ≡ walked memory.now self byte }
     {

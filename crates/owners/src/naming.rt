@@ -2,7 +2,7 @@
 ghost use Rattle.std.specs.Prelude.{◌≡◌, ℕ, ◌+◌, ◌-◌, ◌*◌, ◌/◌, ◌%◌, ◌^◌, ◌<◌, ◌≤◌, length};
 ghost use Rattle.owners.specs.Naming.{names, named, part_of};
 
-// Functions, since `Buffer` is of another crate: a trait for it alone would be no plainer.
+// Functions, since `Buffer` is of another crate: a trait for it alone would be no plainer, and a struct of memory and buffer would be made anew at each call.
 use memory::{Buffer, Kind, PAGE, Part};
 
 /// How many pages a buffer names.

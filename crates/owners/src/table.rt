@@ -8,10 +8,13 @@ pub struct Owner {
     pub slot: u8,
 }
 
+/// How many pages the table has room for.
+const PAGES: usize = 4096;
+
 /// The owner of each page of memory.
 #[derive(Drop)]
 pub struct Owners {
-    pub table: [Option<Owner>; 4096],
+    pub table: [Option<Owner>; PAGES],
 }
 
 impl Owners {
@@ -20,7 +23,7 @@ impl Owners {
         ensures { result.table ≡ replicate 4096 None }
     {
         Owners {
-            table: [None; 4096],
+            table: [None; PAGES],
         }
     }
 

@@ -1,19 +1,13 @@
 -- Each call of the reader has one answer and one outcome.
 use Rattle.std.proofs.Common.{◌≡◌, ℕ, zero, suc, cond, ltb, List, Some, None, Option, sym, refl, ap, ◌∙◌, inl, inr, arith}
-use Rattle.std.proofs.lemmas.Bool.{cases_order}
 use Rattle.link.specs.declared.term.Window.{Window}
 use Rattle.link.specs.declared.answers.PollAnswer.{PollAnswer}
 use Rattle.link.specs.declared.answers.PollAnswer.TheVariants.{Data, NotReady}
-use Rattle.link.specs.Meaning.{In, Aim, moved, count}
+use Rattle.link.specs.Meaning.{In, moved, count}
+use Rattle.link.proofs.Once.{aim_once}
 use Rattle.link.proofs.Solo.{solo_gapless}
 use Rattle.reader.specs.Readers.{PolledIn, FetchedIn, ReaderPolled, ReaderRestarted, ReaderFetched}
 use Rattle.reader.specs.Fixed.{ReaderFixed, NoGaps}
-
-aim_same : (M b k x y : ℕ) → Aim M b k x → Aim M b k y → x ≡ y
-aim_same M b k x y p q = elim (cases_order x y) [
-  | inl e ↦ e
-  | inr o ↦ elim o [ inl l ↦ absurd (q.first x p.from l p.set) | inr l ↦ absurd (p.first y q.from l q.set) ]
-]
 
 polled_same : (n : Option Window) (i j k : In) (b : ℕ) (a c : PollAnswer) → PolledIn n i b a j → PolledIn n i b c k → (a ≡ c) × (j ≡ k)
 polled_same None i j k b a c x y = (x.0 ∙ sym y.0, x.1 ∙ sym y.1)
@@ -21,7 +15,7 @@ polled_same (Some w) i j k b a c (inl x) (inl y) = (x.0 ∙ sym y.0, x.1 ∙ sym
 polled_same (Some w) i j k b a c (inl x) (inr y) = absurd (let l = x.2 y.0 y.1 in let m = y.2 in let z : ⊥ = omega arith in z)
 polled_same (Some w) i j k b a c (inr x) (inl y) = absurd (let l = y.2 x.0 x.1 in let m = x.2 in let z : ⊥ = omega arith in z)
 polled_same (Some w) i j k b a c (inr x) (inr y) =
-    let e = aim_same w.range b i.place x.0 y.0 x.1 y.1 in
+    let e = aim_once w.range b i.place x.0 y.0 x.1 y.1 in
     (x.3 ∙ ap (λ v. cond (ltb v (count w i)) Data NotReady) e ∙ sym y.3, x.4 ∙ ap (λ v. moved i v) e ∙ sym y.4)
 
 fetched_same : (n : Option Window) (i : In) (k : ℕ) (a c : Option (List ℕ)) → FetchedIn n i k a → FetchedIn n i k c → a ≡ c

@@ -8,38 +8,34 @@ ghost use Rattle.std.specs.Prelude.{◌≡◌, true, false, is_some, None, IfOk}
 use crate::ahead::Ahead;
 use crate::since::Since;
 use crate::sink::Sink;
+use crate::space::Space;
 use crate::store::Store;
 use std::alloc::{AllocError, Global};
 
 impl Sink {
-    /// A sink that keeps packet f only, with space for so many bytes and packet lengths, of which as many count as a term may have.
+    /// A sink that keeps packet f only, with this space, of which as much counts as a term may have.
     /// All its memory is reserved here.
-    pub fn plain(heap: Global, space: usize, most: usize) -> Result<Sink, AllocError>
-        ensures { IfOk result (λ s. sink_of s ≡ unused false space most) }
+    pub fn plain(heap: Global, space: Space) -> Result<Sink, AllocError>
+        ensures { IfOk result (λ s. sink_of s ≡ unused false space.bytes space.packets) }
     {
-        Sink::unrestarted(heap, space, most, None)
+        Sink::unrestarted(heap, space, None)
     }
 
-    /// A sink that keeps also packets ahead of order, with space for so many bytes and packet lengths, of which as many count as a term may have.
+    /// A sink that keeps also packets ahead of order, with this space, of which as much counts as a term may have.
     /// All its memory is reserved here, also the room for a burst of early packets.
-    pub fn gathering(heap: Global, space: usize, most: usize) -> Result<Sink, AllocError>
-        ensures { IfOk result (λ s. sink_of s ≡ unused true space most) }
+    pub fn gathering(heap: Global, space: Space) -> Result<Sink, AllocError>
+        ensures { IfOk result (λ s. sink_of s ≡ unused true space.bytes space.packets) }
     {
-        Sink::unrestarted(heap, space, most, Some(Ahead::new(heap)?))
+        Sink::unrestarted(heap, space, Some(Ahead::new(heap)?))
     }
 
     // A sink before its first Restart, with this room for early packets, if any.
-    fn unrestarted(
-        heap: Global,
-        space: usize,
-        most: usize,
-        ahead: Option<Ahead>,
-    ) -> Result<Sink, AllocError>
+    fn unrestarted(heap: Global, space: Space, ahead: Option<Ahead>) -> Result<Sink, AllocError>
         requires { early_of ahead ≡ (λ k. None) }
-        ensures { IfOk result (λ s. sink_of s ≡ unused (is_some ahead) space most) }
+        ensures { IfOk result (λ s. sink_of s ≡ unused (is_some ahead) space.bytes space.packets) }
     {
         Ok(Sink {
-            store: Store::new(heap, space, most)?,
+            store: Store::new(heap, space)?,
             ahead,
             window: None,
             since: Since::Nothing,

@@ -14,4 +14,4 @@ pub returns : goal.returns
 returns c =
     let s = c.in_ok-new.field-0 in
     let h = c.in_ok-new.ensures in
-    new_empty (is_some c.args.ahead) (taken_in s) (early_of c.args.ahead) (space_of s) (most_of s) c.args.space c.args.most h.taken c.requires h.space h.most
+    new_empty (is_some c.args.ahead) (taken_in s) (early_of c.args.ahead) (space_of s) (most_of s) c.args.space.bytes c.args.space.packets h.taken c.requires h.space h.most

@@ -1,10 +1,11 @@
 -- After a Restart nothing is held.
 use Rattle.std.proofs.Common.{◌≡◌, Bool, true, false, cond, is_some, length, Some, None, sym, ap, ◌∙◌, subst}
+use Rattle.std.proofs.lemmas.Option.{cond_some}
 use Rattle.link.specs.declared.term.Window.{Window}
 use Rattle.link.specs.Bounds.{sound}
 use Rattle.devices.specs.declared.since.Since.TheVariants.{Nothing}
 use Rattle.devices.specs.Early.{early_of}
-use Rattle.devices.specs.Keeping.{never, none_waits, restarted_empty}
+use Rattle.devices.specs.Keeping.{none_waits, restarted_empty}
 use Rattle.devices.specs.Sinking.{SinkRestarted}
 use Rattle.devices.specs.Sinks.{sink_at, sink_of}
 use Rattle.devices.specs.Stored.{taken_in, space_of, most_of}
@@ -13,8 +14,7 @@ use Rattle.devices.proofs.sink.carry.SinkLink.restart.Goals.{in-Some-ahead, in_d
 
 -- the window that was found sound is the one given
 same_window : (v w : Window) (b : Bool) → Some v ≡ cond b (Some w) None → v ≡ w
-same_window v w true h = cc
-same_window v w false h = absurd (never Window v (sym h))
+same_window v w b h = sym (cond_some b w v (sym h)).1
 
 pub invariant_of-self : goal.invariant_of-self
 invariant_of-self c =
