@@ -1,4 +1,4 @@
--- How a text is cut into lines, words and parts of words.
+-- How a line is cut into words, and words into parts.
 use Rattle.std.specs.Prelude.{◌≡◌, ℕ, ◌+◌, Bool, cond, not, ◌||◌, List, take, drop, Some, None, Option, ◌==◌, option_map, position}
 use Rattle.std.specs.List.{position_or_len, before_first}
 

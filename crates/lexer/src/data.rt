@@ -6,7 +6,7 @@ ghost use Rattle.lexer.specs.Parts.{parted};
 ghost use Rattle.lexer.specs.Bytes.{generated, hexed, bytes_of, ruled, handed};
 
 use crate::parts::part_at;
-use numeral::read_u64;
+use numeral::{digit_of, read_u64};
 use std::alloc::{AllocError, Global};
 
 // Byte k of a generated text.
@@ -28,6 +28,10 @@ pub fn generate(heap: Global, count: usize, start: u64) -> Result<Vec<u8>, Alloc
 pub fn read_hex(heap: Global, digits: &[u8]) -> Result<Option<Vec<u8>>, AllocError>
     ensures { IfOk result (λ o. option_map (λ v. v.items) o ≡ hexed digits.now) }
 {
+    // Judged first: digits that say no bytes ask for no memory.
+    if digits.len() % 2 != 0 || !digits.iter().all(|digit| digit_of(*digit).is_some()) {
+        return Ok(None);
+    }
     let mut bytes = vec![in heap; 0; digits.len() / 2]?;
     match hex::decode_to_slice(digits, bytes.as_mut_slice()) {
         Ok(()) => Ok(Some(bytes)),

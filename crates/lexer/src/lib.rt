@@ -1,4 +1,4 @@
-//! What the words of a scenario say: lines and words cut from a text, and bytes; numbers are handed on.
+//! What the words of a scenario say: a line cut into words, a word into parts, and bytes; numbers are handed on.
 #![tactic(auto)]
 
 pub mod data;

@@ -27,7 +27,7 @@ fn with_digit(base: u64, value: u64, byte: u8) -> Option<u64>
     value.checked_mul(base)?.checked_add(digit)
 }
 
-// The number that digits of a base say, if they say one below 2^64.
+// The number that digits of a base say, if they say one below 2^64. Not by `from_str_radix`, which takes a sign too.
 fn numeral_of(base: u64, digits: &[u8]) -> Option<u64>
     requires { 1 ≤ base }
     ensures { result ≡ numeral base digits.now }
@@ -50,7 +50,8 @@ pub fn read_u64(word: &[u8]) -> Option<u64>
     }
 }
 
-// The number that a word says, if the type holds it.
+// The number that a word says, if the type holds it. Callers have each bound from the function named for it below, since
+// here the type alone says which numbers it holds.
 fn read<T: TryFrom<u64>>(word: &[u8]) -> Option<T>
 where
     T::Error: Drop,

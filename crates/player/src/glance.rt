@@ -43,7 +43,7 @@ impl fmt::Display for Glance<'_> {
             return Ok(());
         }
         let hex = Hex {
-            bytes: &self.bytes[0..count.min(16)],
+            bytes: &self.bytes[..count.min(16)],
         };
         let more = if count > 16 { ".." } else { "" };
         write!(f, ", {hex}{more}")

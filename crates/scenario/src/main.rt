@@ -9,6 +9,7 @@ use std::io::Read;
 use std::{env, fs, io};
 
 // Plays one scenario from a new start, one answer a line; false if its text cannot be read.
+// A bool, since false goes on to the next file and an error ends the program.
 fn play(rt: &HostRuntime, name: &str, text: &[u8]) -> io::Result<bool> {
     let heap = rt.alloc();
     let Script { devices, lines } = match read_script(heap, text) {

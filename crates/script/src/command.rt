@@ -6,6 +6,7 @@ use lexer::Data;
 pub enum Kind {
     /// A reader: its bytes, and the lengths of its messages.
     Reader(Data, Vec<u32>),
+    // Two cases and no flag in one, since `true` would not say which sink it stands for.
     /// A plain sink: space for bytes, and for packet lengths.
     Plain(usize, usize),
     /// A gathering sink: space for bytes, and for packet lengths.

@@ -40,7 +40,7 @@ pub struct Fault {
 }
 
 impl Wrong {
-    /// The fault in words. Beside Display, since a derive of texts says nothing of what is written.
+    // The fault in words. Beside Display, since a derive of texts says nothing of what is written.
     fn words(self) -> &'static str
         ensures { result.now ≡ texted self }
     {

@@ -1,4 +1,4 @@
-//! The scenario language: its text read into typed commands, and answers written as text.
+//! The scenario language: its text read into typed commands, and what can be wrong with it.
 #![tactic(auto)]
 
 pub mod command;

@@ -28,11 +28,8 @@ struct Patterns {
 }
 
 impl Patterns {
-    // Takes a word as an option; false if it is none.
-    fn take(&mut self, word: &[u8]) -> Result<bool, Wrong> {
-        let Some((name, value)) = option_of(word) else {
-            return Ok(false);
-        };
+    // Sets the pattern of this name to the number that the value says; a second time is a fault.
+    fn set(&mut self, name: &[u8], value: &[u8]) -> Result<(), Wrong> {
         let bits = read_u64(value).ok_or(Wrong::BadNumber)?;
         let pattern = match name {
             b"busy" => &mut self.busy,
@@ -41,7 +38,7 @@ impl Patterns {
         };
         match pattern.replace(bits) {
             Some(_) => Err(Wrong::MisplacedOption),
-            None => Ok(true),
+            None => Ok(()),
         }
     }
 
@@ -107,9 +104,8 @@ impl<'a> Rest<'a> {
     fn options(&mut self, other: Wrong) -> Result<Patterns, Wrong> {
         let mut options = Patterns::default();
         for word in &mut self.words {
-            if !options.take(word)? {
-                return Err(other);
-            }
+            let (name, value) = option_of(word).ok_or(other)?;
+            options.set(name, value)?;
         }
         Ok(options)
     }
@@ -135,7 +131,7 @@ impl<'a> Rest<'a> {
         Ok(options.over(kind(space as usize, places as usize)))
     }
 
-    // The words on a line after its first.
+    // Switches notices on: the word on.
     fn notices(&mut self) -> Result<Command, Wrong> {
         match self.word()? {
             b"on" => Ok(Command::NoticesOn),
@@ -143,6 +139,7 @@ impl<'a> Rest<'a> {
         }
     }
 
+    // A notice: its source, its key and its bytes.
     fn notice(&mut self) -> Result<Command, Wrong> {
         let source = self.byte()?;
         let key = self.key()?;
@@ -150,6 +147,7 @@ impl<'a> Rest<'a> {
         Ok(Command::Notice(source, key, data))
     }
 
+    // A block of the notice buffer: its number, up to 63.
     fn block(&mut self) -> Result<Command, Wrong> {
         match self.byte()? {
             number @ 0..=63 => Ok(Command::Block(number)),
@@ -157,6 +155,7 @@ impl<'a> Rest<'a> {
         }
     }
 
+    // What a sink took: the pipe, at which one of the devices so far is a sink.
     fn taken(&mut self, devices: &[Device]) -> Result<Command, Wrong> {
         let pipe = self.byte()?;
         match devices.get(usize::from(pipe)).map(|device| &device.kind) {

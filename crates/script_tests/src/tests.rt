@@ -1,5 +1,5 @@
 //! Texts that cannot be read are told by their line; others are answered line by line.
-use notices::Notices;
+use notices::{BUFFER, Notices};
 use player::{build_pile, carry_out};
 use script::{Fault, Wrong, read_script};
 use std::test::Fail;
@@ -71,7 +71,7 @@ const PLAYED: [(&str, &str); 9] = [
 #[test]
 fn answers_line_by_line(rt: HostRuntime) -> Result<(), Fail> {
     let heap = rt.alloc();
-    let mut buffer = vec![in heap; 0u8; 4096]?;
+    let mut buffer = vec![in heap; 0u8; BUFFER]?;
     let mut notices = Notices::new(buffer.as_mut_slice()).map_err(|_| Fail::new(
         "4,096 bytes are refused",
     ))?;
