@@ -4,7 +4,7 @@ ghost use Rattle.std.specs.Vec.Iter.{into_iter_items};
 ghost use Rattle.player.specs.Building.{Built, Stands, StandInOrder};
 
 use choice::Choice;
-use devices::{Reader, Sink};
+use devices::{Reader, Sink, Space};
 use pile::{Covered, Pile, cover, stack};
 use script::{Device, Kind};
 use std::alloc::{AllocError, Global};
@@ -15,8 +15,12 @@ fn build_function(heap: Global, kind: Kind) -> Result<Choice<Reader, Sink>, Allo
 {
     Ok(match kind {
         Kind::Reader(data, lengths) => Choice::First(Reader::new(data.into_bytes(heap)?, lengths)),
-        Kind::Plain(space, places) => Choice::Second(Sink::plain(heap, space, places)?),
-        Kind::Gathering(space, places) => Choice::Second(Sink::gathering(heap, space, places)?),
+        Kind::Plain(bytes, packets) => {
+            Choice::Second(Sink::plain(heap, Space { bytes, packets })?)
+        }
+        Kind::Gathering(bytes, packets) => {
+            Choice::Second(Sink::gathering(heap, Space { bytes, packets })?)
+        }
     })
 }
 
