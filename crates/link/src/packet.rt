@@ -1,6 +1,4 @@
 //! Room for one packet.
-use std::error::Error;
-use std::fmt;
 use std::marker::Model;
 
 pub mod holding;
@@ -11,14 +9,6 @@ pub const LONGEST: usize = 3584;
 /// More bytes than a packet can have.
 #[derive(Clone, Copy, PartialEq, Eq, Debug)]
 pub struct TooLong;
-
-impl fmt::Display for TooLong {
-    fn fmt<W: fmt::Write>(&self, f: &mut fmt::Formatter<W>) -> fmt::Result {
-        write!(f, "more than {LONGEST} bytes")
-    }
-}
-
-impl Error for TooLong {}
 
 /// Room for one packet, seen as the bytes that it holds.
 // No `ArrayVec`: it clears element by element, up to 3,584 steps for each packet beside its one copy. No `Vec`: making one can fail.
