@@ -3,6 +3,8 @@
 
 ghost use Rattle.frame.specs.Frames.{Writes, Packets, ReadsBack, Puts, Reaps, Queues, Apart, Steady, Holders, Starts, Reads, Happens};
 
+// Answers that only cite a lemma stay: with `using(..)` on the function, tried at six of these, `search` does not prove `returns` but at `worlds_happen`.
+
 /// A packet written into one buffer leaves every other, and every list, as it was.
 pub fn writes_are_framed()
     ensures { Writes }

@@ -7,7 +7,7 @@ use crate::buffer::Buffer;
 use crate::pages::PAGE;
 
 /// The address of a place, a page number and an offset in the page; none where memory does not go so far.
-// A place here and below is the pair of the walk, handed on as it came.
+// A place here and below is the pair of the walk, handed on as it came: a struct would be made of it and opened again at each call.
 fn address(memory: &[u8], place: (usize, usize)) -> Option<usize>
     ensures { SomeIff result (place.0 * 4096 + place.1 < length memory.now) (place.0 * 4096 + place.1) }
 {

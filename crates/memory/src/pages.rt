@@ -7,7 +7,8 @@ use crate::buffer::{Buffer, Kind};
 /// The size of a page in bytes.
 pub const PAGE: usize = 4096;
 
-/// A page number that no address has: the walk is total, and gives it for a byte without a place.
+/// A page number that no address has: the walk gives it for a byte without a place.
+// No Option there: the public walk promises a pair for every byte, and may not begin to fail.
 const NOWHERE: usize = 1 << 52;
 
 /// Eight bytes of memory, the low one first; none where they are not all in memory.

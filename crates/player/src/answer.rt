@@ -62,6 +62,7 @@ impl fmt::Display for Said<'_> {
 }
 
 /// Carries out a line's command; what it answers, as a line of text.
+// `lent`: the language asks it of each function that takes a struct which holds a `&mut`.
 pub fn carry_out(
     heap: Global,
     notices: &mut Notices,

@@ -36,6 +36,7 @@ impl Patterns {
             b"loss" => &mut self.loss,
             _ => return Err(Wrong::UnknownWord),
         };
+        // A match, as in `end`: None is the good case.
         match pattern.replace(bits) {
             Some(_) => Err(Wrong::MisplacedOption),
             None => Ok(()),

@@ -18,7 +18,7 @@ impl Text {
         let size = window.packet as usize;
         let range = window.range as usize;
         let mut at = from.at;
-        // d counts packets from the place on; no slice is indexed by it.
+        // d counts packets from the place on; no slice is indexed by it, and a chain would carry the cursor along all the same.
         for d in 0..range {
             let number = from.number + d;
             if (wanted >> (number % range)) % 2 == 1 {

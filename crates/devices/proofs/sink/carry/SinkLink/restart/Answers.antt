@@ -20,6 +20,7 @@ pub invariant_of-self : goal.invariant_of-self
 invariant_of-self c =
     let s = c.args.self.now in
     let t = c.clear.new.self in
+    -- `none` stands in both answers: the type of the branch has names of the check's own, so no lemma can state it
     let none : early_of c.match-self.self.1.1.0 ≡ (λ k. None) = elim c.match-self.branch [
       | in-Some-ahead w ↦ ap (λ x. early_of x.1.1.0) w.self-is ∙ w.clear-in-Some-ahead.ensures
       | in_default-ahead w ↦ ap (λ x. early_of x.1.1.0) w.self-is ∙ ap early_of w.in_default-ahead.is
