@@ -10,7 +10,7 @@ use Rattle.link.specs.Bounds.{sound}
 use Rattle.link.specs.Meaning.{Meant}
 use Rattle.link.proofs.Sound.{range_twice, range_least}
 
--- equal remainders of two numbers near one another are of one number
+-- equal remainders of two numbers near one another are of one number; link splits the same two cases once, in place
 pub mod_near : (M a b : ℕ) → a < b + M → b < a + M → a % M ≡ b % M → a ≡ b
 mod_near M a b l h e = elim (cases_lt a b) [
   | inl x ↦ mod_same M a b (omega arith) h e

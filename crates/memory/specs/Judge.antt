@@ -14,7 +14,7 @@ use Rattle.memory.specs.Walk.{entry, page_count}
 abbrev pub Verdict : Type 0 → Type 0
 Verdict E = Result (Unit {0}) E
 
--- the first fault of two verdicts
+-- the first fault of two verdicts, which hand nothing on; claims, which hand on the table, have a chain of their own
 abbrev pub and_then : {E : Type 0} → Verdict E → Verdict E → Verdict E
 and_then (Ok u) r = r
 and_then (Err e) r = Err e

@@ -20,6 +20,7 @@ first n t space most b x =
 found : (t : List (List ℕ)) (e : ℕ → Option (List ℕ)) (f : ℕ) (b : List ℕ) → f ≡ length t → Some b ≡ e f → e (length t) ≡ Some b
 found t e f b is here = ap e (sym is) ∙ sym here
 
+-- the packet at hand is told by a line in each answer: what an answer has at hand is of another type in each
 pub append-requires : goal.append-requires
 append-requires c =
     let t = c.loop-packet.store in

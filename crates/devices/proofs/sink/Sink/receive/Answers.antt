@@ -1,4 +1,4 @@
--- A Send of a sink, by what becomes of its packet.
+-- A Send of a sink, by what becomes of its packet. Each answer hands its lemma what the code found: a record of that would be filled anew in each, since what an answer has at hand is of another type in each.
 use Rattle.std.proofs.Common.{◌≢◌, ◌∷◌, ◌++◌, [], length, Some, None, sym, refl, ap, ◌∙◌, subst}
 use Rattle.link.specs.Meaning.{Follows}
 use Rattle.devices.specs.Early.{early_of, packets}
