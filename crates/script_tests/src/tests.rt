@@ -72,9 +72,7 @@ const PLAYED: [(&str, &str); 9] = [
 fn answers_line_by_line(rt: HostRuntime) -> Result<(), Fail> {
     let heap = rt.alloc();
     let mut buffer = vec![in heap; 0u8; BUFFER]?;
-    let mut notices = Notices::new(buffer.as_mut_slice()).map_err(|_| Fail::new(
-        "4,096 bytes are refused",
-    ))?;
+    let mut notices = Notices::new(buffer.as_mut_slice())?;
     for (text, expected) in PLAYED {
         let script = read_script(heap, text.as_bytes()).map_err(|_| Fail::new(text))?;
         let pile = build_pile(heap, script.devices)?;
