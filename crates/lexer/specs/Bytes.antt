@@ -4,6 +4,7 @@ use Rattle.lexer.specs.declared.data.Data.{Data}
 use Rattle.lexer.specs.declared.data.Data.TheVariants.{Written, Generated}
 use Rattle.std.specs.List.{range_with_len}
 use Rattle.lexer.specs.Parts.{parted}
+use Rattle.lexer.specs.declared.parts.Stop.TheVariants.{At}
 use Rattle.numeral.specs.Numbers.{digit_value, all_digits, number}
 
 -- byte k of a generated text
@@ -41,7 +42,7 @@ ruled (Some p) = ruled_by (number p.0) (number p.1)
 -- the bytes after hex:, else those of the rule after gen:
 abbrev rule_after : Option (List ℕ) → Option (List ℕ)
 rule_after None = None
-rule_after (Some rule) = ruled (parted 58 rule)
+rule_after (Some rule) = ruled (parted (At 58) rule)
 
 abbrev hex_after : Option (List ℕ) → Option (List ℕ) → Option (List ℕ)
 hex_after (Some digits) rule = hexed digits

@@ -1,6 +1,8 @@
 -- How a line is cut into words, and words into parts.
 use Rattle.std.specs.Prelude.{◌≡◌, ℕ, ◌+◌, Bool, cond, not, ◌||◌, List, take, drop, Some, None, Option, ◌==◌, option_map, position}
 use Rattle.std.specs.List.{position_or_len, before_first}
+use Rattle.lexer.specs.declared.parts.Stop.{Stop}
+use Rattle.lexer.specs.declared.parts.Stop.TheVariants.{At, Blank, Word}
 
 -- words are parted by blanks, tabs and carriage returns
 abbrev pub blank : ℕ → Bool
@@ -10,9 +12,15 @@ blank c = c == 32 || (c == 9 || c == 13)
 abbrev pub Answers : (ℕ → Bool → Type 0) → (ℕ → Bool) → Type 0
 Answers post test = (c : ℕ) (b : Bool) → post c b → b ≡ test c
 
--- what comes before the first byte that is the mark, and what after it, if there is one
-abbrev pub parted : ℕ → List ℕ → Option (List ℕ × List ℕ)
-parted mark w = option_map (λ k. (take k w, drop (k + 1) w)) (position (λ c. c == mark) w)
+-- the byte at which a part ends
+abbrev pub stops : Stop → ℕ → Bool
+stops (At mark) c = c == mark
+stops Blank c = blank c
+stops Word c = not (blank c)
+
+-- what comes before the first such byte, and what after it, if there is one
+abbrev pub parted : Stop → List ℕ → Option (List ℕ × List ℕ)
+parted s w = option_map (λ k. (take k w, drop (k + 1) w)) (position (stops s) w)
 
 -- a line without its comment
 abbrev pub uncommented : List ℕ → List ℕ

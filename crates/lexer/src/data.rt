@@ -3,10 +3,11 @@ ghost use Rattle.std.specs.Prelude.{◌≡◌, map, IfOk};
 ghost use Rattle.std.specs.Option.{option_map};
 ghost use Rattle.std.specs.List.{range_with_len};
 ghost use Rattle.lexer.specs.Parts.{parted};
+ghost use Rattle.lexer.specs.declared.parts.Stop.TheVariants.{At};
 ghost use Rattle.lexer.specs.Bytes.{generated, hexed, bytes_of, ruled, handed};
 
-use crate::parts::part_at;
-use numeral::{digit_of, read_u64};
+use crate::parts::{Stop, part_at};
+use numeral::read_u64;
 use std::alloc::{AllocError, Global};
 
 // Byte k of a generated text.
@@ -21,7 +22,10 @@ fn generated_byte(start: u64, k: usize) -> u8
 pub fn generate(heap: Global, count: usize, start: u64) -> Result<Vec<u8>, AllocError>
     ensures { IfOk result (λ v. v.items ≡ map (generated start) (range_with_len 0 count)) }
 {
-    (0..count).map(|k| generated_byte(start, k)).collect(heap)
+    // Room for all of them first: where `collect` finds too little for its hint, it asks for less and fills what there is.
+    let mut bytes = Vec::with_capacity(heap, count)?;
+    bytes.extend((0..count).map(|k| generated_byte(start, k)))?;
+    Ok(bytes)
 }
 
 /// The bytes that hexadecimal digits say, if there is an even number of them and nothing else.
@@ -29,7 +33,7 @@ pub fn read_hex(heap: Global, digits: &[u8]) -> Result<Option<Vec<u8>>, AllocErr
     ensures { IfOk result (λ o. option_map (λ v. v.items) o ≡ hexed digits.now) }
 {
     // Judged first: digits that say no bytes ask for no memory.
-    if digits.len() % 2 != 0 || !digits.iter().all(|digit| digit_of(*digit).is_some()) {
+    if digits.len() % 2 != 0 || !digits.iter().all(|digit| digit.is_ascii_hexdigit()) {
         return Ok(None);
     }
     let mut bytes = vec![in heap; 0; digits.len() / 2]?;
@@ -60,9 +64,9 @@ impl Data {
 
 // A generated text of at most 16,777,216 bytes: its count and its start.
 fn read_rule(rule: &[u8]) -> Option<Data>
-    ensures { option_map bytes_of result ≡ ruled (parted 58 rule.now) }
+    ensures { option_map bytes_of result ≡ ruled (parted (At 58) rule.now) }
 {
-    let (count, start) = part_at(rule, b':')?;
+    let (count, start) = part_at(rule, Stop::At(b':'))?;
     let count = read_u64(count)?;
     let start = read_u64(start)?;
     (count <= 16_777_216).then_some(Data::Generated(count as usize, start))

@@ -7,5 +7,5 @@ pub mod words;
 
 pub use data::{Data, generate, read_data, read_hex};
 pub use numeral::{read_u8, read_u16, read_u32, read_u64};
-pub use parts::part_at;
+pub use parts::{Stop, part_at};
 pub use words::Words;

@@ -2,13 +2,44 @@
 ghost use Rattle.std.specs.Prelude.{◌≡◌, ℕ, Bool, take, drop};
 ghost use Rattle.std.specs.Option.{option_map};
 ghost use Rattle.std.specs.List.{position_or_len};
-ghost use Rattle.lexer.specs.Parts.{Answers, parted};
+ghost use Rattle.lexer.specs.Parts.{Answers, blank, parted, stops};
 
-/// What comes before the first byte that is the mark, and what after it, if there is one.
-pub fn part_at(text: &[u8], mark: u8) -> Option<(&[u8], &[u8])>
-    ensures { option_map (λ p. (p.0.now, p.1.now)) result ≡ parted mark text.now }
+/// Where a part of the text ends.
+#[derive(Clone, Copy)]
+pub enum Stop {
+    /// At this byte.
+    At(u8),
+    /// After a word.
+    Blank,
+    /// Before a word.
+    Word,
+}
+
+impl Stop {
+    // Whether a part ends at this byte.
+    fn ends(self, byte: u8) -> bool
+        ensures { result ≡ stops self byte }
+    {
+        match self {
+            Stop::At(mark) => byte == mark,
+            Stop::Blank => is_blank(byte),
+            Stop::Word => !is_blank(byte),
+        }
+    }
+}
+
+// Whether the byte parts words.
+pub(crate) fn is_blank(byte: u8) -> bool
+    ensures { result ≡ blank byte }
 {
-    let at = text.iter().position(|byte| *byte == mark)?;
+    matches!(byte, b' ' | b'\t' | b'\r')
+}
+
+/// What comes before the first byte at which a part ends, and what after it, if there is one.
+pub fn part_at(text: &[u8], stop: Stop) -> Option<(&[u8], &[u8])>
+    ensures { option_map (λ p. (p.0.now, p.1.now)) result ≡ parted stop text.now }
+{
+    let at = text.iter().position(|byte| stop.ends(*byte))?;
     Some((&text[..at], &text[at + 1..]))
 }
 

@@ -2,16 +2,9 @@
 ghost use Rattle.std.specs.Prelude.{◌≡◌, length};
 ghost use Rattle.std.specs.Iterator.{at_most};
 ghost use Rattle.std.specs.Option.{option_map};
-ghost use Rattle.lexer.specs.Parts.{blank, uncommented, first_word, after_word};
+ghost use Rattle.lexer.specs.Parts.{uncommented, first_word, after_word};
 
-use crate::parts::cut_at;
-
-// Whether the byte parts words.
-fn is_blank(byte: u8) -> bool
-    ensures { result ≡ blank byte }
-{
-    matches!(byte, b' ' | b'\t' | b'\r')
-}
+use crate::parts::{cut_at, is_blank};
 
 // The line without its comment.
 pub(crate) fn cut_comment(line: &[u8]) -> &[u8]

@@ -3,13 +3,13 @@ ghost use Rattle.std.specs.Prelude.{◌≤◌, IfOk, vec_len};
 
 use crate::command::{Command, Device, Kind, Line, Script};
 use crate::fault::{Fault, Wrong};
-use lexer::{Data, Words, part_at, read_data, read_u8, read_u32, read_u64};
+use lexer::{Data, Stop, Words, part_at, read_data, read_u8, read_u32, read_u64};
 use std::alloc::{AllocError, Global};
 use std::iter::Peekable;
 
 // A word with an equals sign is an option: its name and its value.
 fn option_of(word: &[u8]) -> Option<(&[u8], &[u8])> {
-    part_at(word, b'=')
+    part_at(word, Stop::At(b'='))
 }
 
 // A number of 64 bits; an option stands too early.
@@ -199,16 +199,20 @@ fn add_device(devices: &mut Vec<Device>, device: Device) -> Result<Command, Wron
 }
 
 // The words that an answer begins with: the line's first, and where its command names a thing that word as it was written.
-fn label(heap: Global, command: &Command, words: Words<'_>) -> Result<String, AllocError> {
+fn label(
+    heap: Global,
+    command: &Command,
+    verb: &[u8],
+    words: Words<'_>,
+) -> Result<String, AllocError> {
     let shown = match command {
-        Command::Block(_) | Command::Taken(_) => 2,
-        _ => 1,
+        Command::Block(_) | Command::Taken(_) => 1,
+        _ => 0,
     };
     let mut label = String::new(heap);
+    label.extend(verb.iter().map(|byte| char::from(*byte)))?;
     for word in words.take(shown) {
-        if !label.is_empty() {
-            label.push(' ')?;
-        }
+        label.push(' ')?;
         label.extend(word.iter().map(|byte| char::from(*byte)))?;
     }
     Ok(label)
@@ -218,14 +222,15 @@ fn label(heap: Global, command: &Command, words: Words<'_>) -> Result<String, Al
 fn read_line(heap: Global, script: &mut Script, number: usize, text: &[u8]) -> Result<(), Wrong>
     ensures { vec_len script.old.devices ≤ 4 → vec_len script.new.devices ≤ 4 }
 {
-    let words = Words::new(text);
-    let mut rest = Rest {
-        heap,
-        words: words.peekable(),
-    };
-    if let Some(verb) = rest.words.next() {
+    let mut words = Words::new(text);
+    if let Some(verb) = words.next() {
+        // A copy, since the label says the word after the verb again, but not what stands before the verb.
+        let mut rest = Rest {
+            heap,
+            words: words.peekable(),
+        };
         let command = rest.command(verb, &mut script.devices)?;
-        let label = label(heap, &command, words)?;
+        let label = label(heap, &command, verb, words)?;
         script.lines.push(Line {
             number,
             label,
