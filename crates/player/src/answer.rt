@@ -72,8 +72,13 @@ pub fn carry_out(
     ensures after { OnOk result (board notices.new ≡ carried (board notices.old) line.command) }
     ensures lent { notices.new.buffer.ghost_name ≡ notices.old.buffer.ghost_name }
 {
-    let label = line.label;
-    let answer = |said: Said<'_>| format!(in heap; "{label}: {said}");
+    // The answer goes on where the label ends, in room for most answers: piece by piece it would ask for memory again and again.
+    let mut text = line.label;
+    let answer = |said: Said<'_>| -> Result<String, AllocError> {
+        text.reserve(64)?;
+        write!(text, ": {said}")?;
+        Ok(text)
+    };
     match line.command {
         Command::Device(pipe) => answer(Said::Device(pipe, pile.describe(pipe))),
         Command::Taken(pipe) => answer(Said::Taken(sink_at(pile, pipe))),
